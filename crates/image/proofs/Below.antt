@@ -3,10 +3,10 @@ use mathlib.Core.Path.{_≡_, sym, subst}
 use mathlib.Core.List.{List}
 use Prim.Native.Nat.{ℕ, _+_, _*_, _<_}
 use Rattle.fields.proofs.Laws.{field-below}
-use Rattle.image.specs.declared.layout.Header.{Header}
-use Rattle.image.specs.declared.layout.Function.{Function}
-use Rattle.image.specs.declared.layout.Node.{Node}
-use Rattle.image.specs.Layout.{headerOf, functionOffset, functionAt, nodeOffset, nodeAt}
+use Rattle.packed.specs.declared.layout.Header.{Header}
+use Rattle.packed.specs.declared.layout.Function.{Function}
+use Rattle.packed.specs.declared.layout.Node.{Node}
+use Rattle.packed.specs.Layout.{headerOf, functionOffset, functionAt, nodeOffset, nodeAt}
 
 pub node-below : (image : List ℕ) (h : Header) (n : ℕ) (d : Node) → d ≡ nodeAt image h n → (d .a < 4096) × (d .b < 4096) × (d .next < 4096)
 unfolding nodeAt

@@ -7,11 +7,11 @@ use borrow.Author.Needs.{zero≤}
 use borrow.Author.Tests.{leb-true, ltb-true, eqb-true}
 use lib.Dec.{leb, ltb, eqb}
 use Rattle.fields.proofs.Tests.{and-both}
-use Rattle.image.specs.declared.layout.Header.{Header}
-use Rattle.image.specs.declared.layout.Node.{Node}
-use Rattle.image.specs.declared.kinds.Role.{Role}
-use Rattle.image.specs.declared.kinds.Role.the-variants.{Unlisted, Number, Literal, Text, Function, Node as NodeRole}
-use Rattle.image.specs.Kinds.{rowOf, tagRole}
+use Rattle.packed.specs.declared.layout.Header.{Header}
+use Rattle.packed.specs.declared.layout.Node.{Node}
+use Rattle.packed.specs.declared.kinds.Role.{Role}
+use Rattle.packed.specs.declared.kinds.Role.the-variants.{Unlisted, Number, Literal, Text, Function, Node as NodeRole}
+use Rattle.packed.specs.Kinds.{rowOf, tagRole}
 use Rattle.image.specs.Records.{fits, nodeGood}
 use Rattle.image.specs.Tree.{named}
 

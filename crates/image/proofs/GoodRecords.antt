@@ -6,11 +6,11 @@ use Prim.Native.Nat.{ℕ, _+_, _-_, _≤_, _<_}
 use native.Mathlib.Omega.{arith}
 use borrow.Author.Needs.{zero≤}
 use borrow.Author.Tests.{not-false, lt-ltb, le-ltb}
-use Rattle.image.specs.declared.layout.Header.{Header}
+use Rattle.packed.specs.declared.layout.Header.{Header}
 use Rattle.image.specs.declared.first.Found.{Found}
 use Rattle.image.specs.declared.first.Found.the-variants.{At, Nowhere}
 use Rattle.image.specs.First.{firstFrom}
-use Rattle.image.specs.Layout.{functionAt, nodeAt}
+use Rattle.packed.specs.Layout.{functionAt, nodeAt}
 use Rattle.image.specs.Records.{functionGood, nodeGood, literalGood, recordGood, recordBad, recordOffset, recordsIn, placed, badRecord}
 use Rattle.image.proofs.Search.{nowhere}
 

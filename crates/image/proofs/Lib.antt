@@ -1,4 +1,3 @@
-pub mod Ranges
 pub mod Roles
 pub mod Below
 pub mod Good
@@ -6,3 +5,5 @@ pub mod Search
 pub mod GoodRecords
 pub mod Counting
 pub mod Marking
+pub mod Exact
+pub mod Loads

@@ -9,8 +9,8 @@ use borrow.Author.Tests.{eq-eqb, ne-eqb}
 use lib.Dec.{ltb}
 use lib.ListN.{length, getD, set, length-set}
 use lib.Seq.{getD-set-same, getD-set-other}
-use Rattle.image.specs.declared.layout.Node.{Node}
-use Rattle.image.specs.Kinds.{rowOf}
+use Rattle.packed.specs.declared.layout.Node.{Node}
+use Rattle.packed.specs.Kinds.{rowOf}
 use Rattle.image.specs.Tree.{heading, marked, says, Holds}
 
 module _ (l : List ℕ) (n to kind : ℕ) (long : length l ≡ 4096) where

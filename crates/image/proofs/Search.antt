@@ -7,7 +7,7 @@ use native.Mathlib.Numerals.{add-one}
 use native.Mathlib.Decide.{ℕ-discrete}
 use native.Mathlib.Omega.{arith}
 use Rattle.image.specs.declared.first.Found.the-variants.{At, Nowhere}
-use Rattle.image.specs.First.{firstFrom}
+use Rattle.image.specs.First.{firstFrom, First, Never}
 
 module _ (test : ℕ → Bool) where
   -- ---- a turn of a loop that looks at i and stops at e
@@ -33,14 +33,7 @@ module _ (test : ℕ → Bool) where
 
   -- ---- what the answer says, both ways
 
-  -- p is the first of the n numbers from i on at which the test holds
-  pub record First (i n p : ℕ) : Type 0 where
-    pub from : i ≤ p
-    pub within : p < i + n
-    pub holds : test p ≡ true
-    pub none : (q : ℕ) → i ≤ q → q < p → test q ≡ false
-
-  step : (i n p : ℕ) → test i ≡ false → First (suc i) n p → First i (suc n) p
+  step : (i n p : ℕ) → test i ≡ false → First test (suc i) n p → First test i (suc n) p
   step i n p f r =
       record {
         from = omega (arith, r .from);
@@ -53,44 +46,40 @@ module _ (test : ℕ → Bool) where
       past q h l (yes e) = ap test e ∙ f
       past q h l (no e) = r .none q (omega arith) l
 
-  now-or-on : (i n p : ℕ) (b : Bool) → test i ≡ b → (firstFrom test (suc i) n ≡ At p → First (suc i) n p) → cond b (At i) (firstFrom test (suc i) n) ≡ At p → First i (suc n) p
+  now-or-on : (i n p : ℕ) (b : Bool) → test i ≡ b → (firstFrom test (suc i) n ≡ At p → First test (suc i) n p) → cond b (At i) (firstFrom test (suc i) n) ≡ At p → First test i (suc n) p
   now-or-on i n p true t later e =
       let same : i ≡ p = cc in
       record { from = omega arith; within = omega arith; holds = ap test (sym same) ∙ t; none = λ q h l. absurd (omega arith) }
   now-or-on i n p false t later e = step i n p t (later e)
 
-  pub found : (i n p : ℕ) → firstFrom test i n ≡ At p → First i n p
+  pub found : (i n p : ℕ) → firstFrom test i n ≡ At p → First test i n p
   unfolding firstFrom
   found i zero p e = let z : _≡_ {A = ℕ} 0 1 = cc in absurd (omega arith)
   found i (suc n) p e = now-or-on i n p (test i) refl (found (suc i) n p) e
 
-  pub is-found : (i n p : ℕ) → First i n p → firstFrom test i n ≡ At p
+  pub is-found : (i n p : ℕ) → First test i n p → firstFrom test i n ≡ At p
   unfolding firstFrom
   is-found i zero p r = absurd (omega (arith, r .from, r .within))
   is-found i (suc n) p r = go (ℕ-discrete p i) (is-found (suc i) n p)
     where
-      go : Dec (p ≡ i) → (First (suc i) n p → firstFrom test (suc i) n ≡ At p) → cond (test i) (At i) (firstFrom test (suc i) n) ≡ At p
+      go : Dec (p ≡ i) → (First test (suc i) n p → firstFrom test (suc i) n ≡ At p) → cond (test i) (At i) (firstFrom test (suc i) n) ≡ At p
       go (yes e) later = rw (ap test (sym e) ∙ r .holds) (ap At (sym e))
       go (no e) later =
           let after : suc i ≤ p = omega (arith, r .from) in
           rw (r .none i (omega arith) after)
           (later (record { from = after; within = omega (arith, r .within); holds = r .holds; none = λ q h l. r .none q (omega arith) l }))
 
-  -- the test holds at none of the n numbers from i on
-  abbrev pub Never : ℕ → ℕ → Type 0
-  Never i n = (q : ℕ) → i ≤ q → q < i + n → test q ≡ false
-
-  pub nowhere : (i n : ℕ) → firstFrom test i n ≡ Nowhere → Never i n
+  pub nowhere : (i n : ℕ) → firstFrom test i n ≡ Nowhere → Never test i n
   unfolding firstFrom
   nowhere i zero e q h l = absurd (omega arith)
   nowhere i (suc n) e q h l = go (test i) refl e (nowhere (suc i) n) (ℕ-discrete q i)
     where
-      go : (b : Bool) → test i ≡ b → cond b (At i) (firstFrom test (suc i) n) ≡ Nowhere → (firstFrom test (suc i) n ≡ Nowhere → Never (suc i) n) → Dec (q ≡ i) → test q ≡ false
+      go : (b : Bool) → test i ≡ b → cond b (At i) (firstFrom test (suc i) n) ≡ Nowhere → (firstFrom test (suc i) n ≡ Nowhere → Never test (suc i) n) → Dec (q ≡ i) → test q ≡ false
       go true t e later d = let z : _≡_ {A = ℕ} 0 1 = cc in absurd (omega arith)
       go false t e later (yes s) = ap test s ∙ t
       go false t e later (no s) = later e q (omega arith) (omega arith)
 
-  pub is-nowhere : (i n : ℕ) → Never i n → firstFrom test i n ≡ Nowhere
+  pub is-nowhere : (i n : ℕ) → Never test i n → firstFrom test i n ≡ Nowhere
   unfolding firstFrom
   is-nowhere i zero f = refl
   is-nowhere i (suc n) f = rw (f i (omega arith) (omega arith)) (is-nowhere (suc i) n (λ q h l. f q (omega arith) (omega arith)))

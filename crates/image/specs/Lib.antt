@@ -1,6 +1,5 @@
-pub mod Layout
-pub mod Kinds
 pub mod First
 pub mod Records
 pub mod Tree
 pub mod Load
+pub mod Answers

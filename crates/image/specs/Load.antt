@@ -4,12 +4,12 @@ use mathlib.Core.Bool.{cond, not}
 use mathlib.Core.List.{List}
 use lib.Dec.{ltb, eqb}
 use lib.ListN.{length}
-use Rattle.image.specs.declared.layout.Header.{Header}
+use Rattle.packed.specs.declared.layout.Header.{Header}
 use Rattle.image.specs.declared.first.Found.{Found}
 use Rattle.image.specs.declared.first.Found.the-variants.{At, Nowhere}
 use Rattle.image.specs.declared.Loaded.{Loaded}
 use Rattle.image.specs.declared.Loaded.the-variants.{Image, BadLength, BadHeader, BadRecord, BadTree}
-use Rattle.image.specs.Layout.{headerOf, sizeOf}
+use Rattle.packed.specs.Layout.{headerOf, sizeOf}
 use Rattle.image.specs.Records.{isNode, badRecord}
 use Rattle.image.specs.Tree.{lowestFault}
 

@@ -5,17 +5,17 @@ use mathlib.Core.List.{List}
 use lib.Dec.{leb, ltb, eqb}
 use lib.Seq.{slice}
 use Rattle.utf8.specs.Utf8.{utf8Of}
-use Rattle.image.specs.declared.layout.Header.{Header}
-use Rattle.image.specs.declared.layout.Function.{Function}
-use Rattle.image.specs.declared.layout.Node.{Node}
-use Rattle.image.specs.declared.layout.Part.{Part}
-use Rattle.image.specs.declared.kinds.Role.{Role}
-use Rattle.image.specs.declared.kinds.Role.the-variants.{Unlisted, Number, Literal, Text, Function as FunctionRole, Node as NodeRole}
+use Rattle.packed.specs.declared.layout.Header.{Header}
+use Rattle.packed.specs.declared.layout.Function.{Function}
+use Rattle.packed.specs.declared.layout.Node.{Node}
+use Rattle.packed.specs.declared.layout.Part.{Part}
+use Rattle.packed.specs.declared.kinds.Role.{Role}
+use Rattle.packed.specs.declared.kinds.Role.the-variants.{Unlisted, Number, Literal, Text, Function as FunctionRole, Node as NodeRole}
 use Rattle.image.specs.declared.first.Found.{Found}
 use Rattle.image.specs.declared.first.Found.the-variants.{At, Nowhere}
 use Rattle.image.specs.First.{firstFrom}
-use Rattle.image.specs.Layout.{textAt, functionOffset, nodeOffset, literalOffset, functionAt, nodeAt, literalAt, partAt}
-use Rattle.image.specs.Kinds.{isWithin, rowOf, tagRole}
+use Rattle.packed.specs.Layout.{textAt, functionOffset, nodeOffset, literalOffset, functionAt, nodeAt, literalAt, partAt}
+use Rattle.packed.specs.Kinds.{isWithin, rowOf, tagRole}
 
 -- the number of a node
 abbrev pub isNode : ℕ → ℕ → Bool

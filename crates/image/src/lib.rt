@@ -1,19 +1,17 @@
-// The packed image of document 01, edition 1: its records, and which images load.
-pub mod layout; // header and records by their fields, and where each stands
-pub mod kinds; // 01's table of kinds
+// Which images of document 01 load, and the refusals 1 to 4 of those that do not.
 pub mod first; // what a search finds
 pub mod records; // refusal 3
 pub mod tree; // refusal 4
 
 use first::Found;
-use layout::Header;
-use layout::header_of;
-use layout::size_of;
+use packed::layout::Header;
+use packed::layout::header_of;
+use packed::layout::size_of;
 use records::bad_record;
 use records::is_node;
 use tree::lowest_fault;
 ghost use mathlib.Core.Path.{_≡_};
-ghost use Rattle.image.specs.Layout.{headerOf};
+ghost use Rattle.packed.specs.Layout.{headerOf};
 ghost use Rattle.image.specs.Load.{judged, loadOf, numberOf, placeOf};
 
 // What loading finds: the image's numbers, or the refusal with its place.

@@ -1,18 +1,18 @@
 // Refusal 3: the first bad record, in the order of the image.
 use crate::first::Found;
-use crate::kinds::Role;
-use crate::kinds::row_of;
-use crate::layout::Function;
-use crate::layout::Header;
-use crate::layout::Node;
-use crate::layout::Part;
-use crate::layout::function_at;
-use crate::layout::literal_at;
-use crate::layout::literals_at;
-use crate::layout::node_at;
-use crate::layout::nodes_at;
-use crate::layout::part_at;
-use crate::layout::text_at;
+use packed::kinds::Role;
+use packed::kinds::row_of;
+use packed::layout::Function;
+use packed::layout::Header;
+use packed::layout::Node;
+use packed::layout::Part;
+use packed::layout::function_at;
+use packed::layout::literal_at;
+use packed::layout::literals_at;
+use packed::layout::node_at;
+use packed::layout::nodes_at;
+use packed::layout::part_at;
+use packed::layout::text_at;
 use utf8::is_utf8;
 ghost use mathlib.Core.Path.{_≡_};
 ghost use Prim.Native.Nat.{_+_, _≤_, _<_};
@@ -20,8 +20,8 @@ ghost use lib.ListN.{length};
 ghost use lib.Dec.{ltb, eqb};
 ghost use mathlib.Core.Bool.{_&&_};
 ghost use Rattle.utf8.specs.Utf8.{utf8Of};
-ghost use Rattle.image.specs.Layout.{sizeOf, literalAt};
-ghost use Rattle.image.specs.Kinds.{tagRole};
+ghost use Rattle.packed.specs.Layout.{sizeOf, literalAt};
+ghost use Rattle.packed.specs.Kinds.{tagRole};
 ghost use Rattle.image.specs.Records.{isNode, functionGood, fits as fitsOf, nodeGood, isScalar, partGood, partOf, payloadGood, literalGood, recordGood, recordOffset, recordsIn, badRecord};
 
 pub fn is_node(x: u16, nodes: u16) -> bool

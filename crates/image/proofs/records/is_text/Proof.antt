@@ -2,7 +2,7 @@
 use mathlib.Core.Path.{ap}
 use borrow.Author.Tests.{lt-ltb, le-ltb}
 use lib.Dec.{eqb}
-use Rattle.image.specs.declared.layout.Literal.{Literal}
+use Rattle.packed.specs.declared.layout.Literal.{Literal}
 use borrow.Author.Needs.{needs}
 use Rattle.image.proofs.records.is_text.Statement.{statement}
 use Rattle.image.proofs.records.is_text.Tie as tie

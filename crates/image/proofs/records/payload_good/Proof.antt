@@ -3,7 +3,7 @@ use mathlib.Core.Path.{sym, _∙_}
 use native.Mathlib.Nat.{le-of-suc-le-suc}
 use borrow.Author.Tests.{ne-eqb}
 use Rattle.image.specs.Records.{payloadGood}
-use Rattle.image.proofs.Ranges.{inside, over, past}
+use Rattle.packed.proofs.Ranges.{inside, over, past}
 use borrow.Author.Tests.{ne-eqb}
 use borrow.Author.Needs.{needs, zero≤}
 use Rattle.image.proofs.records.payload_good.Statement.{statement}

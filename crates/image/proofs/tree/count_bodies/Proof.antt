@@ -6,8 +6,8 @@ use native.Mathlib.Numerals.{add-one}
 use native.Mathlib.Omega.{arith}
 use denote.Ref.{now}
 use borrow.Author.Needs.{needs}
-use Rattle.image.specs.declared.layout.Function.{Function}
-use Rattle.image.specs.Layout.{functionAt}
+use Rattle.packed.specs.declared.layout.Function.{Function}
+use Rattle.packed.specs.Layout.{functionAt}
 use Rattle.image.specs.Tree.{bodies, Added}
 use Rattle.image.proofs.Below.{body-below}
 use Rattle.image.proofs.Counting.{added-none, added-then}

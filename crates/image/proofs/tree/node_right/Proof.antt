@@ -5,7 +5,7 @@ use native.Mathlib.Omega.{arith}
 use denote.Ref.{now}
 use borrow.Author.Tests.{not-true, not-false, le-leb, lt-leb}
 use lib.Dec.{lit<}
-use Rattle.image.specs.declared.layout.Header.{Header}
+use Rattle.packed.specs.declared.layout.Header.{Header}
 use Rattle.image.specs.Records.{nodeGood}
 use Rattle.image.specs.Tree.{grown, isNamedWell, nodeRight}
 use Rattle.image.proofs.Counting.{tells}

@@ -10,10 +10,10 @@ use borrow.Author.Needs.{needs}
 use borrow.Author.Tests.{not-true, not-false, lt-ltb, le-ltb, leb-true}
 use lib.Dec.{leb, ltb}
 use Rattle.fields.proofs.Tests.{and-both}
-use Rattle.image.specs.declared.layout.Header.{Header}
-use Rattle.image.specs.declared.layout.Node.{Node}
-use Rattle.image.specs.Layout.{nodeAt}
-use Rattle.image.specs.Kinds.{isWithin, rowOf, table}
+use Rattle.packed.specs.declared.layout.Header.{Header}
+use Rattle.packed.specs.declared.layout.Node.{Node}
+use Rattle.packed.specs.Layout.{nodeAt}
+use Rattle.packed.specs.Kinds.{isWithin, rowOf, table}
 use Rattle.image.specs.Records.{nodeGood}
 use Rattle.image.specs.Tree.{named, parts}
 use Rattle.image.proofs.Good.{good-node, fits-named}

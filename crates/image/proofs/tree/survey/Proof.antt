@@ -7,9 +7,9 @@ use native.Mathlib.Omega.{arith}
 use denote.Ref.{now}
 use borrow.Author.Needs.{needs}
 use lib.ListN.{getD}
-use Rattle.image.specs.declared.layout.Header.{Header}
-use Rattle.image.specs.declared.layout.Node.{Node}
-use Rattle.image.specs.Layout.{nodeAt}
+use Rattle.packed.specs.declared.layout.Header.{Header}
+use Rattle.packed.specs.declared.layout.Node.{Node}
+use Rattle.packed.specs.Layout.{nodeAt}
 use Rattle.image.specs.Tree.{namesOf, nodeNames, says, chainBy, Added, Holds}
 use Rattle.image.proofs.Below.{node-below}
 use Rattle.image.proofs.Counting.{added-none, added-then}

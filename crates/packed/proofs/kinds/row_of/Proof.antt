@@ -1,13 +1,13 @@
--- `image::kinds::row_of` meets its contract: each arm is its line of the table. Assumes nothing.
+-- `packed::kinds::row_of` meets its contract: each arm is its line of the table. Assumes nothing.
 use mathlib.Core.Path.{_≡_, sym}
 use Prim.Native.Nat.{ℕ}
 use native.Mathlib.Decide.{ℕ-discrete}
 use lib.ListN.{List·getD-eq-default}
 use native.Mathlib.Omega.{arith}
-use Rattle.image.specs.Kinds.{rowOf, table, none}
-use Rattle.image.proofs.Ranges.{NoneOf, past}
-use Rattle.image.proofs.kinds.row_of.Statement.{statement}
-use Rattle.image.proofs.kinds.row_of.Tie as tie
+use Rattle.packed.specs.Kinds.{rowOf, table, none}
+use Rattle.packed.proofs.Ranges.{NoneOf, past}
+use Rattle.packed.proofs.kinds.row_of.Statement.{statement}
+use Rattle.packed.proofs.kinds.row_of.Tie as tie
 
 returns : tie.Need-returns
 unfolding rowOf table

@@ -4,7 +4,7 @@ use mathlib.Core.Bool.{true, false, and-false}
 use Prim.Native.Nat.{ℕ, zero, suc, _+_, _≤_, _<_}
 use native.Mathlib.Omega.{arith}
 use borrow.Author.Tests.{le-leb, lt-leb}
-use Rattle.image.specs.Kinds.{isWithin}
+use Rattle.packed.specs.Kinds.{isWithin}
 
 -- a number within a range, below it and above it
 module _ (lo hi k : ℕ) where

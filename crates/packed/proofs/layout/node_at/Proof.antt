@@ -1,13 +1,13 @@
--- `image::layout::node_at` meets its contract: each field is cut out of the record's word (`cut-field`). Assumes nothing.
+-- `packed::layout::node_at` meets its contract: each field is cut out of the record's word (`cut-field`). Assumes nothing.
 use mathlib.Core.Path.{refl, ap, _∙_}
 use Prim.Native.Nat.{ℕ, _+_, _-_, _*_}
 use denote.Ref.{now}
 use Rattle.fields.proofs.Laws.{cut-field}
-use Rattle.image.specs.Layout.{nodeAt, nodeOffset}
+use Rattle.packed.specs.Layout.{nodeAt, nodeOffset}
 use Rattle.fields.specs.Field.{fieldOf}
 use borrow.Author.Needs.{needs}
-use Rattle.image.proofs.layout.node_at.Statement.{statement}
-use Rattle.image.proofs.layout.node_at.Tie as tie
+use Rattle.packed.proofs.layout.node_at.Statement.{statement}
+use Rattle.packed.proofs.layout.node_at.Tie as tie
 
 nodes-at-requires : tie.Need-nodes-at-requires
 nodes-at-requires c κs = search needs

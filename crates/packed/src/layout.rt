@@ -6,7 +6,7 @@ use fields::word_at;
 ghost use mathlib.Core.Path.{_≡_};
 ghost use Prim.Native.Nat.{_≤_, _<_};
 ghost use lib.ListN.{length};
-ghost use Rattle.image.specs.Layout.{headerOf, nodesAt, literalsAt, textAt, sizeOf, functionAt, nodeAt, literalAt, partAt};
+ghost use Rattle.packed.specs.Layout.{headerOf, nodesAt, literalsAt, textAt, sizeOf, functionAt, nodeAt, literalAt, partAt};
 
 pub struct Header {
     pub edition: u8,

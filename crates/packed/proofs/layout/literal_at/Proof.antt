@@ -1,14 +1,14 @@
--- `image::layout::literal_at` meets its contract: the head is cut out of two bytes (`cut-field`), and the payload is the word after them. Assumes nothing.
+-- `packed::layout::literal_at` meets its contract: the head is cut out of two bytes (`cut-field`), and the payload is the word after them. Assumes nothing.
 use mathlib.Core.Path.{_≡_, refl, ap, _∙_}
 use Prim.Native.Nat.{ℕ, _+_, _*_}
 use native.Mathlib.Omega.{arith}
 use denote.Ref.{now}
 use Rattle.fields.specs.Field.{fieldOf}
 use Rattle.fields.proofs.Laws.{cut-field}
-use Rattle.image.specs.Layout.{literalAt, literalOffset}
+use Rattle.packed.specs.Layout.{literalAt, literalOffset}
 use borrow.Author.Needs.{needs}
-use Rattle.image.proofs.layout.literal_at.Statement.{statement}
-use Rattle.image.proofs.layout.literal_at.Tie as tie
+use Rattle.packed.proofs.layout.literal_at.Statement.{statement}
+use Rattle.packed.proofs.layout.literal_at.Tie as tie
 
 literals-at-requires : tie.Need-literals-at-requires
 literals-at-requires c κs = search needs

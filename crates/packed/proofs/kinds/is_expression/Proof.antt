@@ -1,8 +1,8 @@
--- `image::kinds::is_expression` meets its contract: the three places of a number against a range. Assumes nothing.
+-- `packed::kinds::is_expression` meets its contract: the three places of a number against a range. Assumes nothing.
 use native.Mathlib.Omega.{arith}
-use Rattle.image.proofs.Ranges.{inside, under, over}
-use Rattle.image.proofs.kinds.is_expression.Statement.{statement}
-use Rattle.image.proofs.kinds.is_expression.Tie as tie
+use Rattle.packed.proofs.Ranges.{inside, under, over}
+use Rattle.packed.proofs.kinds.is_expression.Statement.{statement}
+use Rattle.packed.proofs.kinds.is_expression.Tie as tie
 
 returns : tie.Need-returns
 returns c = inside 1 16 (c .before .before .args .kind) (omega arith) (omega arith)

@@ -1,12 +1,12 @@
--- `image::layout::header_of` meets its contract: each field is cut out of the record's word (`cut-field`). Assumes nothing.
+-- `packed::layout::header_of` meets its contract: each field is cut out of the record's word (`cut-field`). Assumes nothing.
 use mathlib.Core.Path.{refl}
 use Prim.Native.Nat.{_-_, _*_}
 use denote.Ref.{now}
 use Rattle.fields.proofs.Laws.{cut-field}
-use Rattle.image.specs.Layout.{headerOf}
+use Rattle.packed.specs.Layout.{headerOf}
 use borrow.Author.Needs.{needs}
-use Rattle.image.proofs.layout.header_of.Statement.{statement}
-use Rattle.image.proofs.layout.header_of.Tie as tie
+use Rattle.packed.proofs.layout.header_of.Statement.{statement}
+use Rattle.packed.proofs.layout.header_of.Tie as tie
 
 word-at-requires : tie.Need-word-at-requires
 word-at-requires c κs = search needs

@@ -1,6 +1,6 @@
 // 01's table of kinds: how many ops each has, and what its fields hold.
 ghost use mathlib.Core.Path.{_≡_};
-ghost use Rattle.image.specs.Kinds.{isWithin, isOf, rowOf};
+ghost use Rattle.packed.specs.Kinds.{isWithin, isOf, rowOf};
 
 // The kinds that a reference may go to.
 pub enum Class {

@@ -1,13 +1,13 @@
--- `image::layout::part_at` meets its contract: each field is cut out of the payload (`cut-field`). Assumes nothing.
+-- `packed::layout::part_at` meets its contract: each field is cut out of the payload (`cut-field`). Assumes nothing.
 use mathlib.Core.Path.{refl, ap, _∙_}
 use Prim.Native.Nat.{ℕ, _+_, _*_}
 use denote.Ref.{now}
 use Rattle.fields.specs.Field.{fieldOf}
 use Rattle.fields.proofs.Laws.{cut-field}
-use Rattle.image.specs.Layout.{partAt, literalOffset}
+use Rattle.packed.specs.Layout.{partAt, literalOffset}
 use borrow.Author.Needs.{needs}
-use Rattle.image.proofs.layout.part_at.Statement.{statement}
-use Rattle.image.proofs.layout.part_at.Tie as tie
+use Rattle.packed.proofs.layout.part_at.Statement.{statement}
+use Rattle.packed.proofs.layout.part_at.Tie as tie
 
 literals-at-requires : tie.Need-literals-at-requires
 literals-at-requires c κs = search needs

@@ -1,8 +1,8 @@
--- `image::kinds::is_of` meets its contract: each class by its kinds. Assumes nothing.
+-- `packed::kinds::is_of` meets its contract: each class by its kinds. Assumes nothing.
 use borrow.Author.Tests.{ne-eqb}
 use borrow.Author.Needs.{needs}
-use Rattle.image.proofs.kinds.is_of.Statement.{statement}
-use Rattle.image.proofs.kinds.is_of.Tie as tie
+use Rattle.packed.proofs.kinds.is_of.Statement.{statement}
+use Rattle.packed.proofs.kinds.is_of.Tie as tie
 
 enum-told : tie.Need-enum-told
 enum-told c = search needs

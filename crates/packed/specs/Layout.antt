@@ -3,11 +3,11 @@ use Prim.Native.Nat.{ℕ, _+_, _-_, _*_, _/_}
 use mathlib.Core.List.{List, [], _∷_}
 use lib.ListN.{getD, take}
 use Rattle.fields.specs.Field.{fieldOf}
-use Rattle.image.specs.declared.layout.Header.{Header}
-use Rattle.image.specs.declared.layout.Function.{Function}
-use Rattle.image.specs.declared.layout.Node.{Node}
-use Rattle.image.specs.declared.layout.Literal.{Literal}
-use Rattle.image.specs.declared.layout.Part.{Part}
+use Rattle.packed.specs.declared.layout.Header.{Header}
+use Rattle.packed.specs.declared.layout.Function.{Function}
+use Rattle.packed.specs.declared.layout.Node.{Node}
+use Rattle.packed.specs.declared.layout.Literal.{Literal}
+use Rattle.packed.specs.declared.layout.Part.{Part}
 
 -- "edition 4 (=1), functions F 8, nodes N 12, literals L 12, text bytes T 16, root node 12"
 abbrev pub headerFields : List ℕ

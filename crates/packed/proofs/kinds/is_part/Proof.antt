@@ -1,8 +1,8 @@
--- `image::kinds::is_part` meets its contract: the three places of a number against a range. Assumes nothing.
+-- `packed::kinds::is_part` meets its contract: the three places of a number against a range. Assumes nothing.
 use native.Mathlib.Omega.{arith}
-use Rattle.image.proofs.Ranges.{inside, under, over}
-use Rattle.image.proofs.kinds.is_part.Statement.{statement}
-use Rattle.image.proofs.kinds.is_part.Tie as tie
+use Rattle.packed.proofs.Ranges.{inside, under, over}
+use Rattle.packed.proofs.kinds.is_part.Statement.{statement}
+use Rattle.packed.proofs.kinds.is_part.Tie as tie
 
 returns : tie.Need-returns
 returns c = inside 22 23 (c .before .before .args .kind) (omega arith) (omega arith)

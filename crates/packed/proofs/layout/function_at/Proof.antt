@@ -1,12 +1,12 @@
--- `image::layout::function_at` meets its contract: each field is cut out of the record's word (`cut-field`). Assumes nothing.
+-- `packed::layout::function_at` meets its contract: each field is cut out of the record's word (`cut-field`). Assumes nothing.
 use mathlib.Core.Path.{refl}
 use Prim.Native.Nat.{_-_, _*_}
 use denote.Ref.{now}
 use Rattle.fields.proofs.Laws.{cut-field}
-use Rattle.image.specs.Layout.{functionAt, functionOffset}
+use Rattle.packed.specs.Layout.{functionAt, functionOffset}
 use borrow.Author.Needs.{needs}
-use Rattle.image.proofs.layout.function_at.Statement.{statement}
-use Rattle.image.proofs.layout.function_at.Tie as tie
+use Rattle.packed.proofs.layout.function_at.Statement.{statement}
+use Rattle.packed.proofs.layout.function_at.Tie as tie
 
 mul-half-at : tie.Need-mul-half-at
 mul-half-at c = search needs

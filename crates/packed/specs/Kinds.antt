@@ -4,11 +4,11 @@ use mathlib.Core.Bool.{Bool, true, false, _&&_, _||_, cond}
 use mathlib.Core.List.{List, [], _∷_}
 use lib.Dec.{leb, eqb}
 use lib.ListN.{getD}
-use Rattle.image.specs.declared.kinds.Class.{Class}
-use Rattle.image.specs.declared.kinds.Class.the-variants.{Expression, Component, Arm, Entry, Scope, Condition, Target}
-use Rattle.image.specs.declared.kinds.Row.{Row}
-use Rattle.image.specs.declared.kinds.Role.{Role}
-use Rattle.image.specs.declared.kinds.Role.the-variants.{Unlisted, Number, Literal, Text, Function, Node}
+use Rattle.packed.specs.declared.kinds.Class.{Class}
+use Rattle.packed.specs.declared.kinds.Class.the-variants.{Expression, Component, Arm, Entry, Scope, Condition, Target}
+use Rattle.packed.specs.declared.kinds.Row.{Row}
+use Rattle.packed.specs.declared.kinds.Role.{Role}
+use Rattle.packed.specs.declared.kinds.Role.the-variants.{Unlisted, Number, Literal, Text, Function, Node}
 
 abbrev pub isWithin : ℕ → ℕ → ℕ → Bool
 isWithin lo hi k = leb lo k && leb k hi
