@@ -1,19 +1,19 @@
 -- `loadOf` answers exactly what `Answers` says: that answer, and no other. Assumes nothing.
-use mathlib.Core.Path.{_≡_, refl, sym, ap, _∙_, subst}
-use mathlib.Core.Bool.{Bool, true, false, not, _&&_, cond}
+use mathlib.Core.Path.{_≡_, refl, sym, _∙_}
+use mathlib.Core.Bool.{Bool, true, false, not, cond}
 use mathlib.Core.List.{List}
-use Prim.Native.Nat.{ℕ, _≤_, _<_}
+use Prim.Native.Nat.{ℕ, _≤_}
 use native.Mathlib.Omega.{arith}
-use borrow.Author.Tests.{ltb-true, ltb-false, leb-true, eqb-true, eqb-false, lt-ltb, le-ltb, le-leb, eq-eqb, ne-eqb, not-true, not-false}
+use borrow.Author.Tests.{ltb-true, ltb-false, leb-true, eqb-true, eqb-false, lt-ltb, le-ltb, le-leb, eq-eqb, ne-eqb}
 use lib.Dec.{ltb, leb, eqb}
 use lib.ListN.{length}
-use Rattle.fields.proofs.Tests.{and-both, same-flag}
+use Rattle.fields.proofs.Tests.{and-both}
 use Rattle.packed.specs.declared.layout.Header.{Header}
 use Rattle.image.specs.declared.first.Found.{Found}
 use Rattle.image.specs.declared.first.Found.the-variants.{At, Nowhere}
 use Rattle.image.specs.declared.Loaded.{Loaded}
-use Rattle.image.specs.declared.Loaded.the-variants.{Image, BadLength, BadHeader, BadRecord, BadTree}
-use Rattle.image.specs.First.{firstFrom, First, Never}
+use Rattle.image.specs.declared.Loaded.the-variants.{BadLength, BadHeader}
+use Rattle.image.specs.First.{firstFrom, Never}
 use Rattle.packed.specs.Layout.{headerOf, sizeOf}
 use Rattle.image.specs.Records.{isNode, recordBad, recordOffset, recordsIn, placed, badRecord}
 use Rattle.image.specs.Tree.{atFault, lowestFault}

@@ -1,5 +1,5 @@
 -- What is known of an image that loads: the laws that the crates above cite. Assumes nothing.
-use mathlib.Core.Path.{_≡_, refl, sym, ap, _∙_, subst}
+use mathlib.Core.Path.{_≡_, refl, sym, ap, subst}
 use mathlib.Core.Logic.{_⊎_, inl, inr, ⊎-elim}
 use mathlib.Core.Bool.{Bool, true, false, not, _&&_, _||_, cond, true≢false}
 use mathlib.Core.List.{List}
@@ -7,7 +7,7 @@ use Prim.Native.Nat.{ℕ, zero, suc, _+_, _≤_, _<_}
 use native.Mathlib.Nat.{not-suc-le-zero}
 use native.Mathlib.Decide.{decLt, ℕ-discrete}
 use native.Mathlib.Omega.{arith}
-use borrow.Author.Tests.{leb-true, ltb-true, eqb-true, eqb-false, eq-eqb, ne-eqb, not-false}
+use borrow.Author.Tests.{leb-true, ltb-true, eqb-true, eq-eqb, ne-eqb, not-false}
 use lib.Dec.{leb, ltb, eqb}
 use lib.ListN.{length, List·getD-eq-default}
 use Rattle.utf8.specs.Utf8.{utf8Of}
@@ -16,17 +16,17 @@ use Rattle.packed.specs.declared.layout.Header.{Header}
 use Rattle.packed.specs.declared.layout.Node.{Node}
 use Rattle.packed.specs.declared.kinds.Class.{Class}
 use Rattle.packed.specs.declared.kinds.Class.the-variants.{Expression, Scope}
-use Rattle.packed.specs.declared.kinds.Row.{Row}
+use Rattle.packed.specs.declared.kinds.KindRow.{KindRow}
 use Rattle.packed.specs.declared.kinds.Role.{Role}
 use Rattle.packed.specs.declared.kinds.Role.the-variants.{Unlisted, Number, Literal, Text, Function, Node as NodeRole}
 use Rattle.image.specs.declared.first.Found.the-variants.{Nowhere}
 use Rattle.image.specs.declared.Loaded.{Loaded}
-use Rattle.image.specs.declared.Loaded.the-variants.{Image, BadLength, BadHeader, BadRecord, BadTree}
-use Rattle.image.specs.First.{firstFrom, Never}
+use Rattle.image.specs.declared.Loaded.the-variants.{Image}
+use Rattle.image.specs.First.{Never}
 use Rattle.packed.specs.Layout.{nodeAt, literalAt, partAt, functionAt}
 use Rattle.packed.specs.Kinds.{isOf, rowOf, table, none}
-use Rattle.image.specs.Records.{fits, partGood, partOf, payloadGood, literalGood, functionGood, isNode, recordBad, recordOffset, recordsIn, badRecord}
-use Rattle.image.specs.Tree.{named, times, bodies, namings, heading, marked, says, chainBy, goes, parts, namesWell, isNamedWell, nodeRight, atFault}
+use Rattle.image.specs.Records.{fits, partGood, partOf, payloadGood, literalGood, functionGood, recordBad, recordsIn, badRecord}
+use Rattle.image.specs.Tree.{named, times, bodies, namings, heading, chainBy, goes, parts, namesWell, isNamedWell, nodeRight, atFault}
 use Rattle.image.specs.Load.{loadOf}
 use Rattle.image.specs.Answers.{HeaderRight, Answers, short, otherEdition, otherLength, noRoot, badRecord as badRecordThere, badTree, loads}
 use Rattle.image.proofs.Search.{is-nowhere}
@@ -96,7 +96,7 @@ known-kind kind op l = go (ℕ-discrete kind 0) (decLt 23 kind)
     go (yes z) _ = absurd (not-suc-le-zero (subst (λ (k : ℕ). op < rowOf k .ops) z l))
     go (no z) (yes g) =
         let past : rowOf kind ≡ none = List·getD-eq-default table none g in
-        absurd (not-suc-le-zero (subst (λ (r : Row). op < r .ops) past l))
+        absurd (not-suc-le-zero (subst (λ (r : KindRow). op < r .ops) past l))
     go (no z) (no g) = (omega arith, omega arith)
 
 -- ---- the image

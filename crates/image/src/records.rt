@@ -67,11 +67,7 @@ fn fits(image: &[u8], h: Header, role: Role, x: u16) -> bool
         Role::Literal => x < h.literals,
         Role::Text => is_text(image, h, x),
         Role::Function => x < h.functions as u16,
-        Role::Node {
-            needed,
-            heads: _,
-            class: _,
-        } => {
+        Role::Node(needed, _, _) => {
             if needed {
                 is_node(x, h.nodes)
             } else {

@@ -44,26 +44,14 @@ fn bump(counts: &mut [u8; 4096], node: u16)
 fn named(role: Role, x: u16) -> u16
     ensures { λ r. ⌜ r ≡ namedOf role x ⌝ }
 {
-    if let Role::Node {
-        needed: _,
-        heads: _,
-        class: _,
-    } = role {
-        x
-    } else {
-        0
-    }
+    if let Role::Node(_, _, _) = role { x } else { 0 }
 }
 
 // The kind of a node whose field a heads a chain, else 0.
 fn heading(kind: u8, role: Role) -> u8
     ensures { λ r. ⌜ r ≡ headingOf kind role ⌝ }
 {
-    if let Role::Node {
-        needed: _,
-        heads,
-        class: _,
-    } = role {
+    if let Role::Node(_, heads, _) = role {
         if heads { kind } else { 0 }
     } else {
         0
@@ -143,11 +131,7 @@ fn goes(image: &[u8], h: Header, n: u16, role: Role, x: u16) -> bool
 {
     match role {
         Role::Unlisted => x == 0,
-        Role::Node {
-            needed: _,
-            heads: _,
-            class,
-        } => {
+        Role::Node(_, _, class) => {
             if x == 0 {
                 return true;
             }

@@ -6,7 +6,7 @@ use lib.Dec.{leb, eqb}
 use lib.ListN.{getD}
 use Rattle.packed.specs.declared.kinds.Class.{Class}
 use Rattle.packed.specs.declared.kinds.Class.the-variants.{Expression, Component, Arm, Entry, Scope, Condition, Target}
-use Rattle.packed.specs.declared.kinds.Row.{Row}
+use Rattle.packed.specs.declared.kinds.KindRow.{KindRow}
 use Rattle.packed.specs.declared.kinds.Role.{Role}
 use Rattle.packed.specs.declared.kinds.Role.the-variants.{Unlisted, Number, Literal, Text, Function, Node}
 
@@ -37,14 +37,14 @@ abbrev pub chain1 : Class → Role
 chain1 c = Node true true c
 
 -- a line of the table: how many ops the kind has, and what tag, a and b hold
-abbrev pub row : ℕ → Role → Role → Role → Row
+abbrev pub row : ℕ → Role → Role → Role → KindRow
 row n t a b = record { ops = n; tag = t; a = a; b = b }
 
 -- no kind: no op is one of its
-abbrev pub none : Row
+abbrev pub none : KindRow
 none = row 0 Unlisted Unlisted Unlisted
 
-unfoldable pub table : List Row
+unfoldable pub table : List KindRow
 table =
     none
     ∷ row 1 Unlisted (chain Expression) (maybe Expression)  -- 1 scope: a instruction chain or 0, b last or 0
@@ -72,7 +72,7 @@ table =
     ∷ row 1 Unlisted (one Target) Number  -- 23 target: a target, b index
     ∷ []
 
-unfoldable pub rowOf : ℕ → Row
+unfoldable pub rowOf : ℕ → KindRow
 rowOf kind = getD table kind none
 
 -- "op 0 ignore (tag 0)": a let condition that binds nothing has no tag

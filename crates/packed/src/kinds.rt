@@ -1,6 +1,6 @@
 // 01's table of kinds: how many ops each has, and what its fields hold.
 ghost use mathlib.Core.Path.{_≡_};
-ghost use Rattle.packed.specs.Kinds.{isWithin, isOf, rowOf};
+ghost use Rattle.packed.specs.Kinds.{isWithin, isOf, row as rowWith, rowOf};
 
 // The kinds that a reference may go to.
 pub enum Class {
@@ -25,12 +25,8 @@ pub enum Role {
     Text,
     // a function
     Function,
-    // a node of a class, or 0 unless it is needed; whether it heads a chain
-    Node {
-        needed: bool,
-        heads: bool,
-        class: Class,
-    },
+    // a node: whether it is needed, or may be 0; whether it heads a chain; its class
+    Node(bool, bool, Class),
 }
 
 pub fn is_expression(kind: u8) -> bool
@@ -84,7 +80,7 @@ pub fn is_of(class: Class, kind: u8) -> bool
 }
 
 // A line of the table: how many ops the kind has, and what tag, a and b hold.
-pub struct Row {
+pub struct KindRow {
     pub ops: u8,
     pub tag: Role,
     pub a: Role,
@@ -101,248 +97,66 @@ const TEXT: Role = Role::Text;
 
 const FUNCTION: Role = Role::Function;
 
-const EXPRESSION: Role = Role::Node {
-    needed: true,
-    heads: false,
-    class: Class::Expression,
-};
+// A needed node, one that may be 0, and the head of a chain.
+const EXPRESSION: Role = Role::Node(true, false, Class::Expression);
 
-const MAYBE_EXPRESSION: Role = Role::Node {
-    needed: false,
-    heads: false,
-    class: Class::Expression,
-};
+const MAYBE_EXPRESSION: Role = Role::Node(false, false, Class::Expression);
 
-const EXPRESSIONS: Role = Role::Node {
-    needed: false,
-    heads: true,
-    class: Class::Expression,
-};
+const EXPRESSIONS: Role = Role::Node(false, true, Class::Expression);
 
-const EXPRESSIONS_NOT_EMPTY: Role = Role::Node {
-    needed: true,
-    heads: true,
-    class: Class::Expression,
-};
+const EXPRESSIONS_NOT_EMPTY: Role = Role::Node(true, true, Class::Expression);
 
-const COMPONENTS: Role = Role::Node {
-    needed: false,
-    heads: true,
-    class: Class::Component,
-};
+const COMPONENTS: Role = Role::Node(false, true, Class::Component);
 
-const ARMS: Role = Role::Node {
-    needed: false,
-    heads: true,
-    class: Class::Arm,
-};
+const ARMS: Role = Role::Node(false, true, Class::Arm);
 
-const ENTRIES: Role = Role::Node {
-    needed: false,
-    heads: true,
-    class: Class::Entry,
-};
+const ENTRIES: Role = Role::Node(false, true, Class::Entry);
 
-const SCOPE: Role = Role::Node {
-    needed: true,
-    heads: false,
-    class: Class::Scope,
-};
+const SCOPE: Role = Role::Node(true, false, Class::Scope);
 
-const MAYBE_SCOPE: Role = Role::Node {
-    needed: false,
-    heads: false,
-    class: Class::Scope,
-};
+const MAYBE_SCOPE: Role = Role::Node(false, false, Class::Scope);
 
-const CONDITION: Role = Role::Node {
-    needed: true,
-    heads: false,
-    class: Class::Condition,
-};
+const CONDITION: Role = Role::Node(true, false, Class::Condition);
 
-const MAYBE_CONDITION: Role = Role::Node {
-    needed: false,
-    heads: false,
-    class: Class::Condition,
-};
+const MAYBE_CONDITION: Role = Role::Node(false, false, Class::Condition);
 
-const TARGET: Role = Role::Node {
-    needed: true,
-    heads: false,
-    class: Class::Target,
-};
+const TARGET: Role = Role::Node(true, false, Class::Target);
 
-pub fn row_of(kind: u8) -> Row
+// A line as the table below writes it.
+fn row(ops: u8, tag: Role, a: Role, b: Role) -> KindRow
+    ensures { λ r. ⌜ r ≡ rowWith ops tag a b ⌝ }
+{
+    KindRow { ops, tag, a, b }
+}
+
+// The line of each kind; a kind that 01 does not list has no op.
+pub fn row_of(kind: u8) -> KindRow
     ensures { λ r. ⌜ r ≡ rowOf kind ⌝ }
 {
     match kind {
-        // scope
-        1 => Row {
-            ops: 1,
-            tag: NOTHING,
-            a: EXPRESSIONS,
-            b: MAYBE_EXPRESSION,
-        },
-        // binary
-        2 => Row {
-            ops: 11,
-            tag: NOTHING,
-            a: EXPRESSION,
-            b: EXPRESSION,
-        },
-        // decl
-        3 => Row {
-            ops: 1,
-            tag: NUMBER,
-            a: EXPRESSION,
-            b: NOTHING,
-        },
-        // set
-        4 => Row {
-            ops: 1,
-            tag: NOTHING,
-            a: TARGET,
-            b: EXPRESSION,
-        },
-        // assign
-        5 => Row {
-            ops: 6,
-            tag: NOTHING,
-            a: TARGET,
-            b: EXPRESSION,
-        },
-        // template
-        6 => Row {
-            ops: 1,
-            tag: NOTHING,
-            a: COMPONENTS,
-            b: NOTHING,
-        },
-        // name
-        7 => Row {
-            ops: 1,
-            tag: NUMBER,
-            a: NOTHING,
-            b: NOTHING,
-        },
-        // read
-        8 => Row {
-            ops: 1,
-            tag: NOTHING,
-            a: TARGET,
-            b: NOTHING,
-        },
-        // value
-        9 => Row {
-            ops: 1,
-            tag: NOTHING,
-            a: LITERAL,
-            b: NOTHING,
-        },
-        // branches
-        10 => Row {
-            ops: 1,
-            tag: NOTHING,
-            a: ARMS,
-            b: MAYBE_SCOPE,
-        },
-        // loop
-        11 => Row {
-            ops: 1,
-            tag: NUMBER,
-            a: MAYBE_CONDITION,
-            b: SCOPE,
-        },
-        // break
-        12 => Row {
-            ops: 1,
-            tag: NUMBER,
-            a: MAYBE_EXPRESSION,
-            b: NOTHING,
-        },
-        // vec
-        13 => Row {
-            ops: 1,
-            tag: NOTHING,
-            a: EXPRESSIONS,
-            b: NOTHING,
-        },
-        // tuple
-        14 => Row {
-            ops: 1,
-            tag: NOTHING,
-            a: EXPRESSIONS_NOT_EMPTY,
-            b: NOTHING,
-        },
-        // object
-        15 => Row {
-            ops: 1,
-            tag: NOTHING,
-            a: ENTRIES,
-            b: NOTHING,
-        },
-        // call
-        16 => Row {
-            ops: 1,
-            tag: FUNCTION,
-            a: EXPRESSIONS,
-            b: NOTHING,
-        },
-        // text
-        17 => Row {
-            ops: 1,
-            tag: NOTHING,
-            a: TEXT,
-            b: NOTHING,
-        },
-        // arm
-        18 => Row {
-            ops: 1,
-            tag: NOTHING,
-            a: CONDITION,
-            b: SCOPE,
-        },
-        // entry
-        19 => Row {
-            ops: 1,
-            tag: NOTHING,
-            a: TEXT,
-            b: EXPRESSION,
-        },
-        // let condition
-        20 => Row {
-            ops: 2,
-            tag: NUMBER,
-            a: EXPRESSION,
-            b: NOTHING,
-        },
-        // target: a name
-        21 => Row {
-            ops: 1,
-            tag: NUMBER,
-            a: NOTHING,
-            b: NOTHING,
-        },
-        // target: a field
-        22 => Row {
-            ops: 1,
-            tag: NOTHING,
-            a: TARGET,
-            b: TEXT,
-        },
-        // target: an index
-        23 => Row {
-            ops: 1,
-            tag: NOTHING,
-            a: TARGET,
-            b: NUMBER,
-        },
-        _ => Row {
-            ops: 0,
-            tag: NOTHING,
-            a: NOTHING,
-            b: NOTHING,
-        },
+        1 => row(1, NOTHING, EXPRESSIONS, MAYBE_EXPRESSION), // scope
+        2 => row(11, NOTHING, EXPRESSION, EXPRESSION), // binary
+        3 => row(1, NUMBER, EXPRESSION, NOTHING), // decl
+        4 => row(1, NOTHING, TARGET, EXPRESSION), // set
+        5 => row(6, NOTHING, TARGET, EXPRESSION), // assign
+        6 => row(1, NOTHING, COMPONENTS, NOTHING), // template
+        7 => row(1, NUMBER, NOTHING, NOTHING), // name
+        8 => row(1, NOTHING, TARGET, NOTHING), // read
+        9 => row(1, NOTHING, LITERAL, NOTHING), // value
+        10 => row(1, NOTHING, ARMS, MAYBE_SCOPE), // branches
+        11 => row(1, NUMBER, MAYBE_CONDITION, SCOPE), // loop
+        12 => row(1, NUMBER, MAYBE_EXPRESSION, NOTHING), // break
+        13 => row(1, NOTHING, EXPRESSIONS, NOTHING), // vec
+        14 => row(1, NOTHING, EXPRESSIONS_NOT_EMPTY, NOTHING), // tuple
+        15 => row(1, NOTHING, ENTRIES, NOTHING), // object
+        16 => row(1, FUNCTION, EXPRESSIONS, NOTHING), // call
+        17 => row(1, NOTHING, TEXT, NOTHING), // text
+        18 => row(1, NOTHING, CONDITION, SCOPE), // arm
+        19 => row(1, NOTHING, TEXT, EXPRESSION), // entry
+        20 => row(2, NUMBER, EXPRESSION, NOTHING), // let condition
+        21 => row(1, NUMBER, NOTHING, NOTHING), // target: a name
+        22 => row(1, NOTHING, TARGET, TEXT), // target: a field
+        23 => row(1, NOTHING, TARGET, NUMBER), // target: an index
+        _ => row(0, NOTHING, NOTHING, NOTHING),
     }
 }

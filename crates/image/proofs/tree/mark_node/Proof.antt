@@ -2,7 +2,7 @@
 use mathlib.Core.Path.{_≡_, ap, ap₂, _∙_}
 use Prim.Native.Nat.{ℕ}
 use denote.Ref.{now}
-use Rattle.packed.specs.declared.kinds.Row.{Row}
+use Rattle.packed.specs.declared.kinds.KindRow.{KindRow}
 use Rattle.packed.specs.Kinds.{rowOf}
 use Rattle.image.specs.Tree.{heading, marked}
 use borrow.Author.Needs.{needs}
@@ -29,7 +29,7 @@ returns c =
     let a = c .before .before .before .before .before .before .before .args in
     let d = a .d in
     let l = now (a .chains) in
-    let head : c .before .heading .result ≡ heading (d .kind) (rowOf (d .kind) .a) = c .before .heading .ensures ∙ ap (λ (row : Row). heading (d .kind) (row .a)) (c .before .before .before .before .before .before .row-of .ensures) in
+    let head : c .before .heading .result ≡ heading (d .kind) (rowOf (d .kind) .a) = c .before .heading .ensures ∙ ap (λ (row : KindRow). heading (d .kind) (row .a)) (c .before .before .before .before .before .before .row-of .ensures) in
     record {
       long = c .mark2 .ensures .long;
       at = λ m h.

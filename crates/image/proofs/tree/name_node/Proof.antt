@@ -1,7 +1,7 @@
 -- `image::tree::name_node` meets its contract: three counts grow, one after the other (`added-then`). Assumes nothing.
 use mathlib.Core.Path.{_≡_, ap, sym, _∙_}
 use native.Mathlib.Omega.{arith}
-use Rattle.packed.specs.declared.kinds.Row.{Row}
+use Rattle.packed.specs.declared.kinds.KindRow.{KindRow}
 use Rattle.packed.specs.Kinds.{rowOf}
 use Rattle.image.specs.Tree.{named, namesOf}
 use Rattle.image.proofs.Counting.{added-then}
@@ -37,8 +37,8 @@ unfolding namesOf
 returns c =
     let d = c .before .before .before .before .before .before .before .before .before .args .d in
     let r = c .before .before .before .before .before .before .before .before .row-of .ensures in
-    let a : c .before .before .before .before .before .before .named .result ≡ named (rowOf (d .kind) .a) (d .a) = c .before .before .before .before .before .before .named .ensures ∙ ap (λ (row : Row). named (row .a) (d .a)) r in
-    let b : c .before .before .before .named2 .result ≡ named (rowOf (d .kind) .b) (d .b) = c .before .before .before .named2 .ensures ∙ ap (λ (row : Row). named (row .b) (d .b)) r in
+    let a : c .before .before .before .before .before .before .named .result ≡ named (rowOf (d .kind) .a) (d .a) = c .before .before .before .before .before .before .named .ensures ∙ ap (λ (row : KindRow). named (row .a) (d .a)) r in
+    let b : c .before .before .before .named2 .result ≡ named (rowOf (d .kind) .b) (d .b) = c .before .before .before .named2 .ensures ∙ ap (λ (row : KindRow). named (row .b) (d .b)) r in
     rw (sym a, sym b) (added-then (added-then (c .before .before .before .before .before .bump .ensures) (c .before .before .bump2 .ensures)) (c .bump3 .ensures))
 
 pub name-node-spec : {M : Type 1} → statement M

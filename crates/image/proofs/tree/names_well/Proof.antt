@@ -4,7 +4,7 @@ use Prim.Native.Nat.{_≤_}
 use native.Mathlib.Nat.{le-trans}
 use denote.Ref.{now}
 use borrow.Author.Tests.{not-true, not-false}
-use Rattle.packed.specs.declared.kinds.Row.{Row}
+use Rattle.packed.specs.declared.kinds.KindRow.{KindRow}
 use Rattle.image.specs.Tree.{named, namesWell}
 use Rattle.image.proofs.Roles.{named-le}
 use Rattle.image.proofs.Good.{good-node, fits-named}
@@ -20,7 +20,7 @@ goes-requires c κs =
     let a = c .before .before .args in
     let good = good-node (now (a .image)) (a .h) (a .d) (c .before .before .pre .1) in
     let there = fits-named (now (a .image)) (a .h) _ (a .d .a) (good .a) in
-    (subst (λ (r : Row). named (r .a) (a .d .a) ≤ a .h .nodes) (sym (c .row-of .ensures)) there, c .before .before .pre .0)
+    (subst (λ (r : KindRow). named (r .a) (a .d .a) ≤ a .h .nodes) (sym (c .row-of .ensures)) there, c .before .before .pre .0)
 
 returns : tie.Need-returns
 unfolding namesWell
@@ -31,7 +31,7 @@ goes-requires-2 c κs =
     let a = c .before .before .before .before .args in
     let good = good-node (now (a .image)) (a .h) (a .d) (c .before .before .before .before .pre .1) in
     let there = fits-named (now (a .image)) (a .h) _ (a .d .b) (good .b) in
-    (subst (λ (r : Row). named (r .b) (a .d .b) ≤ a .h .nodes) (sym (c .before .before .row-of .ensures)) there, c .before .before .before .before .pre .0)
+    (subst (λ (r : KindRow). named (r .b) (a .d .b) ≤ a .h .nodes) (sym (c .before .before .row-of .ensures)) there, c .before .before .before .before .pre .0)
 
 returns-2 : tie.Need-returns-2
 unfolding namesWell
