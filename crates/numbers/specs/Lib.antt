@@ -1,0 +1,4 @@
+pub mod Words
+pub mod Ints
+pub mod Floats
+pub mod Decimal
