@@ -1,0 +1,9 @@
+pub mod Answer
+pub mod Store
+pub mod Targets
+pub mod Building
+pub mod Machine
+pub mod Output
+pub mod Runs
+pub mod Go
+pub mod Marked
