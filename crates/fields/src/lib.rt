@@ -56,7 +56,7 @@ pub fn half_at(bytes: &[u8], at: usize) -> u64
 }
 
 // The sum of a number whose k low bits are 0 and one of k bits. (An `|` and not a `+`, and each byte put in its place by
-// itself: so the eight loads of `word_at` become one load and a byte swap.)
+// itself: so the eight loads of `word_at` become one load and a byte swap, wherever the whole word is used.)
 fn beside(x: u64, y: u64, k: u32) -> u64
     requires { ⌜ (k < 64) × (x % 2 ^ k ≡ 0) × (y < 2 ^ k) ⌝ }
     ensures { λ r. ⌜ r ≡ x + y ⌝ }
