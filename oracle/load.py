@@ -1,8 +1,8 @@
 #!/usr/bin/env python3
-"""Loading of an image, edition 1: an independent oracle for the crate `image`.
+"""Loading of an image, edition 1: an oracle for the crate `image`, which shares nothing with it.
 
-It is written from document 01, 'Image' and 'Numbers', with docs/DECISIONS.md where that leaves a point open, and
-not from the crate. It keeps to the words of the document rather than to speed: the nodes at fault are collected
+It is written from document 01, 'Image' and 'Numbers', with docs/DECISIONS.md where that leaves a point open; its
+author knew the crate's definitions (docs/DIFFERENCES.md says what that means). It keeps to the words of the document rather than to speed: the nodes at fault are collected
 as a set, and the place is the least of them. `load(image)` gives the pair (number, place): (0, 0) for an image
 that loads, else the refusal 1 to 4 and its place.
 
