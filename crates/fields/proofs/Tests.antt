@@ -1,5 +1,5 @@
 -- Laws of tests, for every crate whose definitions answer a `Bool`. Assumes nothing.
-use mathlib.Core.Path.{_≡_, refl, sym, _∙_}
+use mathlib.Core.Path.{_≡_, refl, sym}
 use mathlib.Core.Bool.{Bool, true, false, _&&_, true≢false}
 use Prim.Native.Nat.{ℕ, _≤_}
 use borrow.Author.Tests.{leb-true, le-leb}
@@ -20,6 +20,3 @@ same-leb a b c d f g =
 pub and-both : (p q : Bool) → p && q ≡ true → (p ≡ true) × (q ≡ true)
 and-both true q e = (refl, e)
 and-both false q e = absurd (true≢false (sym e))
-
-pub not-both : (b : Bool) → b ≡ true → b ≡ false → ⊥
-not-both b t f = true≢false (sym t ∙ f)

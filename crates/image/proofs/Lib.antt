@@ -7,3 +7,4 @@ pub mod Counting
 pub mod Marking
 pub mod Exact
 pub mod Loads
+pub mod Chains

@@ -1,14 +1,43 @@
 -- `image::judge` meets its contract: the tests in 01's order, and a tree that is judged once every record is good. Assumes nothing.
-use mathlib.Core.Path.{sym, _∙_}
+use mathlib.Core.Path.{_≡_, sym, _∙_}
+use mathlib.Core.Bool.{not, cond}
 use native.Mathlib.Nat.{le-of-eq}
 use denote.Ref.{now}
 use borrow.Author.Tests.{not-true, not-false, eq-eqb, ne-eqb}
-use Rattle.image.specs.Load.{judged}
+use Rattle.image.specs.declared.Loaded.{Loaded}
+use Rattle.image.specs.declared.Loaded.the-variants.{BadHeader}
+use Rattle.image.specs.Records.{isNode, badRecord}
+use Rattle.image.specs.Tree.{lowestFault}
+use Rattle.image.specs.Load.{byTree, byRecords, judged}
 use Rattle.image.proofs.Below.{header-below}
 use Rattle.image.proofs.GoodRecords.{node-good}
 use borrow.Author.Needs.{needs}
 use Rattle.image.proofs.judge.Statement.{statement}
 use Rattle.image.proofs.judge.Tie as tie
+
+-- what is asked for, and what is left of it once the header is right, and once every record is good too
+module _ (s : tie.Start) where
+  abbrev asked : Loaded
+  asked = judged (now (s .args .image)) (s .args .h)
+
+  abbrev by-records : Loaded
+  by-records = byRecords (now (s .args .image)) (s .args .h) (badRecord (now (s .args .image)) (s .args .h))
+
+  abbrev by-tree : Loaded
+  by-tree = byTree (s .args .h) (lowestFault (now (s .args .image)) (s .args .h))
+
+-- past the second test, the third and the records decide
+sized : (c : tie.Else2) → let s = c .before .before .before .before .before in asked s ≡ cond (not (isNode (s .args .h .nodes) (s .args .h .root))) BadHeader (by-records s)
+unfolding judged
+sized c = rw (eq-eqb _ _ (c .before .before .if1 .left), eq-eqb _ _ (c .if2 .left ∙ c .before .size-of .ensures))
+
+-- past the third, the records
+rooted : (c : tie.Else3) → let s = c .before .before .before .before .before .before .before in asked s ≡ by-records s
+rooted c = sized (c .before .before) ∙ rw (sym (c .before .is-node .ensures) ∙ not-false _ (c .if3 .left))
+
+-- where none is bad, the tree
+recorded : (c : tie.After-enum-told) → let s = c .before .before .before .before .before .before .before .before .before .before in asked s ≡ by-tree s
+recorded c = rooted (c .before .before .before) ∙ rw (sym (c .before .before .bad-record .ensures) ∙ c .enum-told .given .1)
 
 returns : tie.Need-returns
 unfolding judged
@@ -25,8 +54,7 @@ is-node-requires : tie.Need-is-node-requires
 is-node-requires c κs = search needs
 
 returns-3 : tie.Need-returns-3
-unfolding judged
-returns-3 c = rw (eq-eqb _ _ (c .before .before .before .before .if1 .left), sym (c .before .before .before .size-of .ensures), eq-eqb _ _ (c .before .before .if2 .left), sym (c .before .is-node .ensures) ∙ not-true _ (c .if3 .taken))
+returns-3 c = rw (sized (c .before .before), sym (c .before .is-node .ensures) ∙ not-true _ (c .if3 .taken))
 
 bad-record-requires : tie.Need-bad-record-requires
 bad-record-requires c κs = search needs
@@ -51,16 +79,13 @@ enum-told-2 : tie.Need-enum-told-2
 enum-told-2 c = search needs
 
 returns-4 : tie.Need-returns-4
-unfolding judged
-returns-4 c = rw (eq-eqb _ _ (c .before .before .before .before .before .before .before .before .if1 .left), sym (c .before .before .before .before .before .before .before .size-of .ensures), eq-eqb _ _ (c .before .before .before .before .before .before .if2 .left), sym (c .before .before .before .before .before .is-node .ensures) ∙ not-false _ (c .before .before .before .before .if3 .left), sym (c .before .before .before .bad-record .ensures) ∙ c .before .place .given .1)
+returns-4 c = rw (rooted (c .before .before .before .before), sym (c .before .before .before .bad-record .ensures) ∙ c .before .place .given .1)
 
 returns-5 : tie.Need-returns-5
-unfolding judged
-returns-5 c = rw (eq-eqb _ _ (c .before .before .before .before .before .before .before .before .before .before .before .if1 .left), sym (c .before .before .before .before .before .before .before .before .before .before .size-of .ensures), eq-eqb _ _ (c .before .before .before .before .before .before .before .before .before .if2 .left), sym (c .before .before .before .before .before .before .before .before .is-node .ensures) ∙ not-false _ (c .before .before .before .before .before .before .before .if3 .left), sym (c .before .before .before .before .before .before .bad-record .ensures) ∙ c .before .before .before .before .enum-told .given .1, sym (c .before .before .before .lowest-fault .ensures) ∙ c .before .n .given .1)
+returns-5 c = rw (recorded (c .before .before .before .before), sym (c .before .before .before .lowest-fault .ensures) ∙ c .before .n .given .1)
 
 returns-6 : tie.Need-returns-6
-unfolding judged
-returns-6 c = rw (eq-eqb _ _ (c .before .before .before .before .before .before .before .before .before .before .if1 .left), sym (c .before .before .before .before .before .before .before .before .before .size-of .ensures), eq-eqb _ _ (c .before .before .before .before .before .before .before .before .if2 .left), sym (c .before .before .before .before .before .before .before .is-node .ensures) ∙ not-false _ (c .before .before .before .before .before .before .if3 .left), sym (c .before .before .before .before .before .bad-record .ensures) ∙ c .before .before .before .enum-told .given .1, sym (c .before .before .lowest-fault .ensures) ∙ c .enum-told2 .given .1)
+returns-6 c = rw (recorded (c .before .before .before), sym (c .before .before .lowest-fault .ensures) ∙ c .enum-told2 .given .1)
 
 pub judge-spec : {M : Type 1} → statement M
 judge-spec =
