@@ -9,13 +9,14 @@ use Rattle.packed.specs.declared.layout.Header.{Header}
 use Rattle.packed.specs.Layout.{nodeAt, functionAt}
 use Rattle.rules.specs.declared.Value.{Value}
 use Rattle.rules.specs.declared.Value.the-variants.{Vec, Tuple, Object}
-use Rattle.rules.specs.declared.Refusal.the-variants.{Bindings, Pending, ArgumentCount}
-use Rattle.rules.specs.Store.{Store, mostBindings, mostPending, withFloor, withBindings, opened, closed, pushed, dropped, takenCells, asFloat}
+use Rattle.rules.specs.declared.Refusal.the-variants.{Bindings, Pending, NotConst, ArgumentCount}
+use Rattle.rules.specs.Store.{arguments, Store, mostBindings, mostPending, withFloor, withBindings, opened, closed, pushed, dropped, takenCells, asFloat}
 use Rattle.rules.specs.Building.{Made, builtText, boxed, itemCells, entries, entryCells, printed, unprinted, templateText}
-use Rattle.rules.specs.Machine.{Kind, template, vec, tuple, object, call, kindOf, enter, items, ret, Frame, itemOf, callOf}
-use Rattle.rules.specs.Machine.{going, stop, onward, wholeChain, made, arguments, completed, returned, next, cost}
+use Rattle.rules.specs.Machine.{Kind, scope, binary, decl, set, assign, template, name, read, value, branches, loop, break, vec, tuple, object, call, other, kindOf, enter, items, ret, Frame, itemOf, callOf}
+use Rattle.rules.specs.Machine.{going, stop, onward, wholeChain, made, completed, returned, next, cost}
 use Rattle.rules.specs.Go.{Go}
 use Rattle.rules.proofs.Going.{free}
+use Rattle.rules.proofs.Moves.{Gathers, components, elements, members, fields, parameters}
 
 -- the kinds whose items are boxed one after the other, and the value of such a box
 pub data Boxes : Kind → (ℕ → Value) → Type 0 where
@@ -59,7 +60,7 @@ module _ {image : List ℕ} {h : Header} {l : ℕ} {K : List Frame} {σ : Store}
     too-many-pending (prints k e) full = free refl (rw (eq-eqb _ _ k, e, le-ltb _ _ full))
 
     pub item-unprinted : {v : Value} → nodeAt image h n .kind ≡ 6 → printed image h σ v ≡ none
-        → Go image h l (going (ret v) (itemOf n i d p ∷ K) σ) l (stop (unprinted image h (asFloat v)) i)
+        → Go image h l (going (ret v) (itemOf n i d p ∷ K) σ) l (stop (unprinted (asFloat v)) i)
     unfolding next cost returned
     item-unprinted k e = free refl (rw (eq-eqb _ _ k, e))
 
@@ -73,17 +74,39 @@ module _ {image : List ℕ} {h : Header} {l : ℕ} {K : List Frame} {σ : Store}
     template-built k e = free refl (rw (eq-eqb _ _ ended, k, e))
 
     pub items-boxed : {k : Kind} {box : ℕ → Value} {x : Option Store} → Boxes k box → kindOf (nodeAt image h n .kind) ≡ k
-        → takenCells (dropped p σ) (itemCells image h σ (drop p (σ .pending))) ≡ x
-        → Go image h l (going (items n i d p) K σ) l (made image h K (boxed image h n (box (length (σ .cells))) x))
+        → takenCells (dropped p σ) (itemCells σ (drop p (σ .pending))) ≡ x
+        → Go image h l (going (items n i d p) K σ) l (made image h K (boxed n (box (length (σ .cells))) x))
     unfolding next cost completed
     items-boxed vecs k e = free refl (rw (eq-eqb _ _ ended, k, e))
     items-boxed tuples k e = free refl (rw (eq-eqb _ _ ended, k, e))
 
     pub entries-boxed : {x : Option Store} → kindOf (nodeAt image h n .kind) ≡ object
-        → takenCells (dropped p σ) (entryCells image h σ (entries image h (wholeChain image h (nodeAt image h n .a)) (drop p (σ .pending)) [])) ≡ x
-        → Go image h l (going (items n i d p) K σ) l (made image h K (boxed image h n (Object (length (σ .cells))) x))
+        → takenCells (dropped p σ) (entryCells σ (entries image h (wholeChain image h (nodeAt image h n .a)) (drop p (σ .pending)) [])) ≡ x
+        → Go image h l (going (items n i d p) K σ) l (made image h K (boxed n (Object (length (σ .cells))) x))
     unfolding next cost completed
     entries-boxed k e = free refl (rw (eq-eqb _ _ ended, k, e))
+
+    -- a kind that evaluates no items has none to complete
+    pub no-items : {k : Kind} → (Gathers k → ⊥) → kindOf (nodeAt image h n .kind) ≡ k
+        → Go image h l (going (items n i d p) K σ) l (stop NotConst n)
+    unfolding next cost completed
+    no-items {k = scope} itemless e = free refl (rw (eq-eqb _ _ ended, e))
+    no-items {k = binary} itemless e = free refl (rw (eq-eqb _ _ ended, e))
+    no-items {k = decl} itemless e = free refl (rw (eq-eqb _ _ ended, e))
+    no-items {k = set} itemless e = free refl (rw (eq-eqb _ _ ended, e))
+    no-items {k = assign} itemless e = free refl (rw (eq-eqb _ _ ended, e))
+    no-items {k = template} itemless e = absurd (itemless components)
+    no-items {k = name} itemless e = free refl (rw (eq-eqb _ _ ended, e))
+    no-items {k = read} itemless e = free refl (rw (eq-eqb _ _ ended, e))
+    no-items {k = value} itemless e = free refl (rw (eq-eqb _ _ ended, e))
+    no-items {k = branches} itemless e = free refl (rw (eq-eqb _ _ ended, e))
+    no-items {k = loop} itemless e = free refl (rw (eq-eqb _ _ ended, e))
+    no-items {k = break} itemless e = free refl (rw (eq-eqb _ _ ended, e))
+    no-items {k = vec} itemless e = absurd (itemless elements)
+    no-items {k = tuple} itemless e = absurd (itemless members)
+    no-items {k = object} itemless e = absurd (itemless fields)
+    no-items {k = call} itemless e = absurd (itemless parameters)
+    no-items {k = other} itemless e = free refl (rw (eq-eqb _ _ ended, e))
 
     -- ---- calls
 
@@ -103,7 +126,7 @@ module _ {image : List ℕ} {h : Header} {l : ℕ} {K : List Frame} {σ : Store}
             → Go image h l (going (items n i d p) K σ) l
             (going (enter (functionAt image (nodeAt image h n .tag) .body) (d + 1)) (callOf (σ .scope) (σ .floor) p ∷ K)
             (withFloor (length (σ .bindings))
-            (withBindings (σ .bindings ++ arguments image h (functionAt image (nodeAt image h n .tag) .first) (drop p (σ .pending))) (opened σ))))
+            (withBindings (σ .bindings ++ arguments (functionAt image (nodeAt image h n .tag) .first) (drop p (σ .pending))) (opened σ))))
         unfolding next cost completed
         call-entered room = free refl (rw (eq-eqb _ _ ended, k, eq-eqb _ _ same, le-ltb _ _ room))
 

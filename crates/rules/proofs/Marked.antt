@@ -33,9 +33,9 @@ use Rattle.rules.specs.declared.Refusal.the-variants.{Nesting, Room}
 use Rattle.rules.specs.declared.Answer.{Answer}
 use Rattle.rules.specs.declared.Answer.the-variants.{Value as AValue, Refused, Spent}
 use Rattle.rules.specs.Answer.{refusalNumber, numberOf, placeOf, stepsOf}
-use Rattle.rules.specs.Store.{Store, sameText, lastOf, declared, textOf, entryAt, itemAt}
+use Rattle.rules.specs.Store.{Store, sameText, lastOf, declared, textOf, partText, entryAt, itemAt}
 use Rattle.rules.specs.Targets.{readTarget, targetPlace, targetSet, targetAssigned}
-use Rattle.rules.specs.Building.{literalValue, builtText, binaryOf, entered, entries, templateText}
+use Rattle.rules.specs.Building.{literalOf, literalValue, builtText, binaryOf, entered, entries, templateText}
 use Rattle.rules.specs.Machine.{kinds, kindOf, Ctl, enter, enterBody, again, work, instructions, items, arms, turn, test, ret, brk, Cfg, going, stop, chain, worked, completed, returned, broken, next, cost, takesAt}
 use Rattle.rules.specs.Output.{Encoded, bits, nested, full, bitsOf, inserted, sortedEntries, pieces, writtenBy, encoded, packed, bytesFor}
 use Rattle.rules.specs.Runs.{End, refused, finished, start, iter, costs, Comes, Ends, AboutToTake, ofEncoded, outOf, valueEncoded, Answered, stopped, valued, Budgeted, ended, spent}
@@ -338,5 +338,5 @@ all-so [] t = noMore
 all-so (e ∷ es) t = let both = and-both (right e) (allRight es) t in also (right-so e (both .0)) (all-so es (both .1))
 
 pub marked-right : All marked
-unfolding allRight right run ran isEnd isRet isImage saysRan saysEnd saysEncoded says writtenOf marked headerOf fieldOf bitAt rowOf table tagRole literalAt partAt nodeAt functionAt firstFrom functionGood fits nodeGood partGood partOf payloadGood literalGood recordGood recordOffset badRecord times namesOf bodies nodeNames namings chainBy goes parts namesWell isNamedWell nodeRight lowestFault judged loadOf lastOf declared textOf entryAt itemAt readTarget targetPlace targetSet targetAssigned literalValue builtText binaryOf entered entries templateText kinds kindOf chain worked completed returned broken next cost takesAt assignOf binaryIntOf intOf bitsOf inserted sortedEntries pieces writtenBy encoded packed utf8Of utf8Past charLen starts utf8Row utf8Table
+unfolding allRight right run ran isEnd isRet isImage saysRan saysEnd saysEncoded says writtenOf marked headerOf fieldOf bitAt rowOf table tagRole literalAt partAt nodeAt functionAt firstFrom functionGood fits nodeGood partGood partOf payloadGood literalGood recordGood recordOffset badRecord times namesOf bodies nodeNames namings chainBy goes parts namesWell isNamedWell nodeRight lowestFault judged loadOf lastOf declared textOf partText entryAt itemAt readTarget targetPlace targetSet targetAssigned literalOf literalValue builtText binaryOf entered entries templateText kinds kindOf chain worked completed returned broken next cost takesAt assignOf binaryIntOf intOf bitsOf inserted sortedEntries pieces writtenBy encoded packed utf8Of utf8Past charLen starts utf8Row utf8Table
 marked-right = all-so marked refl

@@ -16,7 +16,8 @@ use Rattle.rules.specs.declared.Value.{Value}
 use Rattle.rules.specs.declared.Value.the-variants.{Unit as VUnit, Bool as VBool}
 use Rattle.rules.specs.declared.Refusal.the-variants.{Depth, NotConst}
 use Rattle.rules.specs.Store.{Store, opened, emptied, closed, sought, declared, asBool}
-use Rattle.rules.specs.Targets.{Got, Wrote, targetRead, targetSet, targetAssigned}
+use Rattle.rules.specs.declared.Got.{Got}
+use Rattle.rules.specs.Targets.{Wrote, targetRead, targetSet, targetAssigned}
 use Rattle.rules.specs.Building.{Made, literalValue, binaryOf}
 use Rattle.rules.specs.Machine.{Kind, scope, binary, decl, set, assign, template, name, read, value, branches, loop, break, vec, tuple, object, call, other, kinds, kindOf, takesMore, mostDepth}
 use Rattle.rules.specs.Machine.{Ctl, enter, enterBody, again, work, instructions, items, arms, turn, test, ret, brk}

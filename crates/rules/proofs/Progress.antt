@@ -19,7 +19,9 @@ use Rattle.rules.specs.declared.Answer.the-variants.{Spent}
 use Rattle.rules.specs.declared.Refusal.{Refusal}
 use Rattle.rules.specs.declared.Refusal.the-variants.{Depth, Bindings, Pending, BreakWithValue, ArgumentCount}
 use Rattle.rules.specs.Store.{Store, mostBindings, mostPending, opened, emptied, closed, dropped, pushed, takenCells, asBool, declared, sought}
-use Rattle.rules.specs.Targets.{Got, is, not as gotNot, Wrote, done, refused as wroteNot, targetRead, targetSet, targetAssigned}
+use Rattle.rules.specs.declared.Got.{Got}
+use Rattle.rules.specs.declared.Got.the-variants.{Is, Not}
+use Rattle.rules.specs.Targets.{Wrote, done, refused as wroteNot, targetRead, targetSet, targetAssigned}
 use Rattle.rules.specs.Building.{Made, gives, refuses, builtText, binaryOf, boxed, itemCells, entries, entryCells, printed, templateText}
 use Rattle.rules.specs.Machine.{Kind, scope, binary, decl, set, assign, template, name, read, value, branches, loop, break, vec, tuple, object, call, other, kindOf, takesMore, mostDepth, Ctl, enter, enterBody, again, work, instructions, items, arms, turn, test, ret, brk, Frame, leftOf, rightOf, declOf, setOf, assignOf, letOf, breakOf, instructionOf, endOf, itemOf, armOf, conditionOf, bodyOf, callOf, Cfg, going, stop, ends, onward, wholeChain, made, got, wrote, bound, named, worked, instructed, armed, armTold, turned, conditionTold, accepted, judged, itemNode, called, completed, itemised, returned, broken, next, cost}
 use Rattle.rules.specs.Runs.{End, refused, finished, iter, costs, NeverEnds, Budgeted, spent}
@@ -107,8 +109,8 @@ module _ (image : List ℕ) (h : Header) where
   mades m K (refuses why place) l = stops m why place
 
   gots : (m : ℕ) (K : List Frame) (σ : Store) (x : Got) → 2 + 5000 * length K < m → Falls m (got image h K σ x)
-  gots m K σ (is v) l = rets m v K σ l
-  gots m K σ (gotNot why place) l = stops m why place
+  gots m K σ (Is v) l = rets m v K σ l
+  gots m K σ (Not why place) l = stops m why place
 
   wrotes : (m : ℕ) (K : List Frame) (x : Wrote) → 2 + 5000 * length K < m → Falls m (wrote image h K x)
   wrotes m K (done σ) l = rets m _ K σ l
@@ -178,10 +180,10 @@ module _ (image : List ℕ) (h : Header) where
   completes branches n d p vs K σ = stops _ _ n
   completes loop n d p vs K σ = stops _ _ n
   completes break n d p vs K σ = stops _ _ n
-  completes vec n d p vs K σ = mades _ K (boxed image h n (Vec (length (σ .cells))) (takenCells (dropped p σ) (itemCells image h σ vs))) (omega arith)
-  completes tuple n d p vs K σ = mades _ K (boxed image h n (Tuple (length (σ .cells))) (takenCells (dropped p σ) (itemCells image h σ vs))) (omega arith)
+  completes vec n d p vs K σ = mades _ K (boxed n (Vec (length (σ .cells))) (takenCells (dropped p σ) (itemCells σ vs))) (omega arith)
+  completes tuple n d p vs K σ = mades _ K (boxed n (Tuple (length (σ .cells))) (takenCells (dropped p σ) (itemCells σ vs))) (omega arith)
   completes object n d p vs K σ =
-      mades _ K (boxed image h n (Object (length (σ .cells))) (takenCells (dropped p σ) (entryCells image h σ (entries image h (wholeChain image h (nodeAt image h n .a)) vs [])))) (omega arith)
+      mades _ K (boxed n (Object (length (σ .cells))) (takenCells (dropped p σ) (entryCells σ (entries image h (wholeChain image h (nodeAt image h n .a)) vs [])))) (omega arith)
   completes call n d p vs K σ = calls _ n d p _ _ _ vs K σ (omega arith)
   completes other n d p vs K σ = stops _ _ n
 

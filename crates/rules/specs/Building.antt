@@ -1,5 +1,5 @@
 -- What nodes build of their operands: binary operations, vec, tuple, object and template (01 'Evaluation' and 'Our additions').
-use Prim.Native.Nat.{ℕ, _+_}
+use Prim.Native.Nat.{ℕ, _+_, _%_, _^_}
 use mathlib.Core.Bool.{Bool, true, false, cond}
 use mathlib.Core.List.{List, [], _∷_, _++_, map}
 use mathlib.Core.Option.{Option, some, none}
@@ -8,7 +8,7 @@ use lib.IntN.{ℤ}
 use lib.Ieee.{Float}
 use lib.ListN.{length}
 use Rattle.packed.specs.declared.layout.Header.{Header}
-use Rattle.packed.specs.Layout.{nodeAt, literalAt, partAt}
+use Rattle.packed.specs.Layout.{nodeAt, literalAt}
 use Rattle.numbers.specs.declared.ArithRefusal.{ArithRefusal}
 use Rattle.numbers.specs.declared.ArithRefusal.the-variants.{Overflow, Division, ShiftOperand}
 use Rattle.numbers.specs.declared.Binary.{Binary}
@@ -21,27 +21,57 @@ use Rattle.rules.specs.declared.Value.{Value}
 use Rattle.rules.specs.declared.Value.the-variants.{Unit as VUnit, Bool as VBool, Char, Unsigned, Signed, Float as VFloat, Text, Bytes, Vec, Tuple, Object}
 use Rattle.rules.specs.declared.Refusal.{Refusal}
 use Rattle.rules.specs.declared.Refusal.the-variants.{Cells, TextBytes, NotConst, Arithmetic, FloatInTemplate}
-use Rattle.rules.specs.Store.{Cell, head, item, entry, Store, withText, mostText, textOf, literalText, sameText, asSigned, asFloat, asText}
+use Rattle.rules.specs.Store.{Cell, head, item, entry, Store, withText, mostText, textOf, startOf, lengthOf, partText, literalText, sameText, asSigned, asFloat, asText}
 
 -- what a node gives: a value, or a refusal and its place
 pub data Made : Type 0 where
   gives : Value → Store → Made
   refuses : Refusal → ℕ → Made
 
+-- "0 unit, 1 bool, 2 unsigned, 3 signed, 4 float bits, 5 char, 6 text, 7 bytes"
+unfoldable pub literalOf : ℕ → ℕ → Value
+literalOf kind payload =
+    cond (eqb kind 1) (VBool (eqb payload 1))
+    (cond (eqb kind 2) (Unsigned payload)
+    (cond (eqb kind 3) (Signed (intOf payload))
+    (cond (eqb kind 4) (VFloat (floatOf payload))
+    (cond (eqb kind 5) (Char (payload % 2 ^ 32))
+    (cond (eqb kind 6) (Text (startOf payload) (lengthOf payload))
+    (cond (eqb kind 7) (Bytes (startOf payload) (lengthOf payload)) VUnit))))))
+
+-- ---- vec and tuple: "vec or tuple of n takes 1+n"
+
+abbrev pub boxed : ℕ → Value → Option Store → Made
+boxed n v none = refuses Cells n
+boxed n v (some σ) = gives v σ
+
+-- the items follow their head, whose number is the handle
+abbrev pub itemCells : Store → List Value → List Cell
+itemCells σ vs = head (length vs) ∷ map (item (length (σ .cells))) vs
+
+-- an object's entries stand after its head, each with its key
+abbrev pub entryCells : Store → List (ℕ × Value) → List Cell
+entryCells σ es = head 0 ∷ map (λ e. entry (length (σ .cells)) (e .0) (e .1)) es
+
+-- ---- template: what a bool prints, and why a value does not print
+
+abbrev pub boolText : Bool → List ℕ
+boolText true = 116 ∷ 114 ∷ 117 ∷ 101 ∷ []
+boolText false = 102 ∷ 97 ∷ 108 ∷ 115 ∷ 101 ∷ []
+
+abbrev pub unprinted : Option Float → Refusal
+unprinted none = NotConst
+unprinted (some x) = FloatInTemplate
+
+abbrev pub orNothing : Option (List ℕ) → List ℕ
+orNothing none = []
+orNothing (some bytes) = bytes
+
 module _ (image : List ℕ) (h : Header) where
-  -- ---- literals: "0 unit, 1 bool, 2 unsigned, 3 signed, 4 float bits, 5 char, 6 text, 7 bytes"
+  -- ---- literals
 
   unfoldable pub literalValue : ℕ → Value
-  literalValue l =
-      let payload = literalAt image h l .payload in
-      let part = partAt image h l in
-      cond (eqb (literalAt image h l .kind) 1) (VBool (eqb payload 1))
-      (cond (eqb (literalAt image h l .kind) 2) (Unsigned payload)
-      (cond (eqb (literalAt image h l .kind) 3) (Signed (intOf payload))
-      (cond (eqb (literalAt image h l .kind) 4) (VFloat (floatOf payload))
-      (cond (eqb (literalAt image h l .kind) 5) (Char payload)
-      (cond (eqb (literalAt image h l .kind) 6) (Text (part .start) (part .length))
-      (cond (eqb (literalAt image h l .kind) 7) (Bytes (part .start) (part .length)) VUnit))))))
+  literalValue l = literalOf (literalAt image h l .kind) (literalAt image h l .payload)
 
   -- ---- text: "joins and templates take their length", all or nothing
 
@@ -94,37 +124,20 @@ module _ (image : List ℕ) (h : Header) where
       (ofFloats n (ofTexts n σ (asText u) (asText v)) (asFloat u) (asFloat v) σ)
       (asSigned u) (asSigned v) σ
 
-  -- ---- vec and tuple: "vec or tuple of n takes 1+n"
-
-  abbrev pub boxed : ℕ → Value → Option Store → Made
-  boxed n v none = refuses Cells n
-  boxed n v (some σ) = gives v σ
-
-  -- the items follow their head, whose number is the handle
-  abbrev pub itemCells : Store → List Value → List Cell
-  itemCells σ vs = head (length vs) ∷ map (item (length (σ .cells))) vs
-
   -- ---- object: "1, and 1 for each new key"; "An entry met again replaces its value"
 
   unfoldable pub entered : List (ℕ × Value) → ℕ → Value → List (ℕ × Value)
-  entered [] l v = (l, v) ∷ []
-  entered (e ∷ es) l v =
-      cond (sameText (literalText image h (e .0)) (literalText image h l)) ((e .0, v) ∷ es) (e ∷ entered es l v)
+  entered [] key v = (key, v) ∷ []
+  entered (e ∷ es) key v =
+      cond (sameText (partText image h (e .0)) (partText image h key)) ((e .0, v) ∷ es) (e ∷ entered es key v)
 
   -- the entries of a chain of entry nodes and their values, one after the other
   unfoldable pub entries : List ℕ → List Value → List (ℕ × Value) → List (ℕ × Value)
   entries [] vs es = es
   entries (i ∷ is) [] es = es
-  entries (i ∷ is) (v ∷ vs) es = entries is vs (entered es (nodeAt image h i .a) v)
-
-  abbrev pub entryCells : Store → List (ℕ × Value) → List Cell
-  entryCells σ es = head 0 ∷ map (λ e. entry (length (σ .cells)) (e .0) (e .1)) es
+  entries (i ∷ is) (v ∷ vs) es = entries is vs (entered es (literalAt image h (nodeAt image h i .a) .payload) v)
 
   -- ---- template: "signed in decimal, bool as true or false, text as it is; float 25 (ours); all else 12"
-
-  abbrev pub boolText : Bool → List ℕ
-  boolText true = 116 ∷ 114 ∷ 117 ∷ 101 ∷ []
-  boolText false = 102 ∷ 97 ∷ 108 ∷ 115 ∷ 101 ∷ []
 
   -- what a component prints, or why it does not
   abbrev pub printed : Store → Value → Option (List ℕ)
@@ -139,14 +152,6 @@ module _ (image : List ℕ) (h : Header) where
   printed σ (Vec c) = none
   printed σ (Tuple c) = none
   printed σ (Object c) = none
-
-  abbrev pub unprinted : Option Float → Refusal
-  unprinted none = NotConst
-  unprinted (some x) = FloatInTemplate
-
-  abbrev pub orNothing : Option (List ℕ) → List ℕ
-  orNothing none = []
-  orNothing (some bytes) = bytes
 
   -- the text of a chain of components and the values of those that are not kind 17, one after the other
   unfoldable pub templateText : Store → List ℕ → List Value → List ℕ

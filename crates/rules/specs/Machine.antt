@@ -13,8 +13,10 @@ use Rattle.rules.specs.declared.Value.{Value}
 use Rattle.rules.specs.declared.Value.the-variants.{Unit as VUnit, Bool as VBool, Vec, Tuple, Object}
 use Rattle.rules.specs.declared.Refusal.{Refusal}
 use Rattle.rules.specs.declared.Refusal.the-variants.{Depth, Bindings, Pending, NotConst, BreakOutside, BreakWithValue, NotBool, MissingName, ArgumentCount}
-use Rattle.rules.specs.Store.{Store, Binding, mostBindings, mostPending, withScope, withFloor, withBindings, opened, emptied, closed, sought, boundAt, declared, pushed, dropped, takenCells, asBool, asFloat}
-use Rattle.rules.specs.Targets.{Got, is, not as gotNot, Wrote, done, refused, targetRead, targetSet, targetAssigned}
+use Rattle.rules.specs.Store.{Store, mostBindings, mostPending, withScope, withFloor, withBindings, opened, emptied, closed, sought, boundAt, declared, arguments, pushed, dropped, takenCells, asBool, asFloat}
+use Rattle.rules.specs.declared.Got.{Got}
+use Rattle.rules.specs.declared.Got.the-variants.{Is, Not}
+use Rattle.rules.specs.Targets.{Wrote, done, refused, targetRead, targetSet, targetAssigned}
 use Rattle.rules.specs.Building.{Made, gives, refuses, literalValue, builtText, binaryOf, boxed, itemCells, entries, entryCells, printed, unprinted, templateText}
 
 -- ---- kinds
@@ -131,8 +133,8 @@ module _ (image : List ℕ) (h : Header) where
   made K (refuses why place) = stop why place
 
   abbrev pub got : List Frame → Store → Got → Cfg
-  got K σ (is v) = going (ret v) K σ
-  got K σ (gotNot why place) = stop why place
+  got K σ (Is v) = going (ret v) K σ
+  got K σ (Not why place) = stop why place
 
   -- "Set, assign and decl give unit"
   abbrev pub wrote : List Frame → Wrote → Cfg
@@ -254,7 +256,7 @@ module _ (image : List ℕ) (h : Header) where
 
   -- "each component is judged as soon as it is evaluated"
   abbrev pub judged : ℕ → ℕ → ℕ → ℕ → Value → List Frame → Store → Option (List ℕ) → Cfg
-  judged n i d p v K σ none = stop (unprinted image h (asFloat v)) i
+  judged n i d p v K σ none = stop (unprinted (asFloat v)) i
   judged n i d p v K σ (some bytes) = accepted n i d p v K σ
 
   abbrev pub itemTold : ℕ → ℕ → ℕ → ℕ → Value → List Frame → Store → Cfg
@@ -264,10 +266,6 @@ module _ (image : List ℕ) (h : Header) where
   -- ---- when all items are there; "taken after the last operand", and what was pending is given back
 
   -- "Call: arguments first, then the count (24), then their bindings (10), then the body"
-  abbrev pub arguments : ℕ → List Value → List Binding
-  arguments first [] = []
-  arguments first (v ∷ vs) = record { name = first; value = v } ∷ arguments (suc first) vs
-
   abbrev pub called : ℕ → ℕ → ℕ → ℕ → ℕ → ℕ → List Value → List Frame → Store → Cfg
   called n d p body count first vs K σ =
       cond (not (eqb (length vs) count)) (stop ArgumentCount n)
@@ -288,10 +286,10 @@ module _ (image : List ℕ) (h : Header) where
   completed branches n d p vs K σ = stop NotConst n
   completed loop n d p vs K σ = stop NotConst n
   completed break n d p vs K σ = stop NotConst n
-  completed vec n d p vs K σ = made K (boxed image h n (Vec (length (σ .cells))) (takenCells (dropped p σ) (itemCells image h σ vs)))
-  completed tuple n d p vs K σ = made K (boxed image h n (Tuple (length (σ .cells))) (takenCells (dropped p σ) (itemCells image h σ vs)))
+  completed vec n d p vs K σ = made K (boxed n (Vec (length (σ .cells))) (takenCells (dropped p σ) (itemCells σ vs)))
+  completed tuple n d p vs K σ = made K (boxed n (Tuple (length (σ .cells))) (takenCells (dropped p σ) (itemCells σ vs)))
   completed object n d p vs K σ =
-      made K (boxed image h n (Object (length (σ .cells))) (takenCells (dropped p σ) (entryCells image h σ (entries image h (wholeChain (nodeAt image h n .a)) vs []))))
+      made K (boxed n (Object (length (σ .cells))) (takenCells (dropped p σ) (entryCells σ (entries image h (wholeChain (nodeAt image h n .a)) vs []))))
   completed call n d p vs K σ =
       called n d p (functionAt image (nodeAt image h n .tag) .body) (functionAt image (nodeAt image h n .tag) .count) (functionAt image (nodeAt image h n .tag) .first) vs K σ
   completed other n d p vs K σ = stop NotConst n

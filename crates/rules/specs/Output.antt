@@ -9,7 +9,7 @@ use Rattle.numbers.specs.Words.{wordOf}
 use Rattle.numbers.specs.Floats.{floatWordOf}
 use Rattle.rules.specs.declared.Value.{Value}
 use Rattle.rules.specs.declared.Value.the-variants.{Unit as VUnit, Bool as VBool, Char, Unsigned, Signed, Float as VFloat, Text, Bytes, Vec, Tuple, Object}
-use Rattle.rules.specs.Store.{Cell, head, item, entry, Store, textOf, literalText, countIn, valueIn}
+use Rattle.rules.specs.Store.{Cell, head, item, entry, Store, textOf, partText, countIn, valueIn}
 
 -- `width` bits of a number, the most significant first
 unfoldable pub bitsOf : ℕ → ℕ → List ℕ
@@ -71,7 +71,7 @@ module _ (image : List ℕ) (h : Header) (σ : Store) where
   sortedEntries owner (head n ∷ cs) = sortedEntries owner cs
   sortedEntries owner (item o v ∷ cs) = sortedEntries owner cs
   sortedEntries owner (entry o k v ∷ cs) =
-      cond (eqb o owner) (inserted (literalText image h k) v (sortedEntries owner cs)) (sortedEntries owner cs)
+      cond (eqb o owner) (inserted (partText image h k) v (sortedEntries owner cs)) (sortedEntries owner cs)
 
   abbrev pub entryPieces : List (List ℕ × Value) → List Piece
   entryPieces [] = []

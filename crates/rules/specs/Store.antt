@@ -1,5 +1,5 @@
 -- The store that the rules speak of: cells, text, bindings and pending items, each a list. No word and no byte store is in it.
-use Prim.Native.Nat.{ℕ, suc, _+_}
+use Prim.Native.Nat.{ℕ, suc, _+_, _/_, _%_, _^_}
 use mathlib.Core.Bool.{Bool, true, false, _&&_, cond}
 use mathlib.Core.List.{List, [], _∷_, _++_}
 use mathlib.Core.Option.{Option, some, none}
@@ -9,8 +9,7 @@ use lib.Ieee.{Float}
 use lib.ListN.{length, getD, set, take, drop}
 use lib.Seq.{slice}
 use Rattle.packed.specs.declared.layout.Header.{Header}
-use Rattle.packed.specs.Layout.{textAt, partAt}
-use Rattle.image.specs.Records.{partOf}
+use Rattle.packed.specs.Layout.{textAt, literalAt}
 use Rattle.rules.specs.declared.Value.{Value}
 use Rattle.rules.specs.declared.Value.the-variants.{Unit as VUnit, Bool as VBool, Char, Unsigned, Signed, Float as VFloat, Text, Bytes, Vec, Tuple, Object}
 
@@ -28,7 +27,7 @@ abbrev pub mostPending : ℕ
 mostPending = 512
 
 -- A handle is the number of a head. The items of a vec or tuple follow it, and it has their count; the entries of an object are those with it as owner, and a
--- key is the number of a text literal.
+-- key is the payload of a text literal.
 pub data Cell : Type 0 where
   head : ℕ → Cell
   item : ℕ → Value → Cell
@@ -125,6 +124,11 @@ declaredAt σ name v none =
 unfoldable pub declared : Store → ℕ → Value → Option Store
 declared σ name v = declaredAt σ name v (lastOf name (σ .scope) (drop (σ .scope) (σ .bindings)))
 
+-- a call's arguments, bound to consecutive names
+abbrev pub arguments : ℕ → List Value → List Binding
+arguments first [] = []
+arguments first (v ∷ vs) = record { name = first; value = v } ∷ arguments (suc first) vs
+
 -- ---- pending items, in the order in which they were evaluated
 
 abbrev pub pushed : Value → Store → Store
@@ -142,9 +146,19 @@ imageText image h = slice (textAt h) (textAt h + h .text) image
 unfoldable pub textOf : List ℕ → Header → Store → ℕ → ℕ → List ℕ
 textOf image h σ start len = slice start (start + len) (imageText image h ++ σ .text)
 
+-- "the payload is zero 32, start 16, length 16 within the text"
+abbrev pub startOf : ℕ → ℕ
+startOf payload = payload / 2 ^ 16 % 2 ^ 32
+
+abbrev pub lengthOf : ℕ → ℕ
+lengthOf payload = payload % 2 ^ 16
+
+unfoldable pub partText : List ℕ → Header → ℕ → List ℕ
+partText image h payload = slice (startOf payload) (startOf payload + lengthOf payload) (imageText image h)
+
 -- the text of a literal
 abbrev pub literalText : List ℕ → Header → ℕ → List ℕ
-literalText image h l = partOf image h (partAt image h l)
+literalText image h l = partText image h (literalAt image h l .payload)
 
 abbrev pub sameText : List ℕ → List ℕ → Bool
 sameText [] [] = true
@@ -160,7 +174,7 @@ entryAt image h owner key i [] = none
 entryAt image h owner key i (head n ∷ cs) = entryAt image h owner key (suc i) cs
 entryAt image h owner key i (item o v ∷ cs) = entryAt image h owner key (suc i) cs
 entryAt image h owner key i (entry o k v ∷ cs) =
-    cond (eqb o owner && sameText (literalText image h k) key) (some i) (entryAt image h owner key (suc i) cs)
+    cond (eqb o owner && sameText (partText image h k) key) (some i) (entryAt image h owner key (suc i) cs)
 
 abbrev pub fieldAt : List ℕ → Header → Store → ℕ → ℕ → Option ℕ
 fieldAt image h σ owner l = entryAt image h owner (literalText image h l) 0 (σ .cells)

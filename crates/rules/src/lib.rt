@@ -12,8 +12,8 @@ pub enum Value {
     Unsigned(u64),
     Signed(i64),
     Float(f64),
-    Text(u32, u32),
-    Bytes(u32, u32),
+    Text(u32, u16),
+    Bytes(u32, u16),
     Vec(u32),
     Tuple(u32),
     Object(u32),
@@ -45,6 +45,20 @@ pub enum Refusal {
     // 26 and 27: nesting, room
     Nesting,
     Room,
+}
+
+// What a target being read gives, and what a node makes of its operands: a value, or a refusal and its place.
+pub enum Got {
+    Is(Value),
+    Not(Refusal, u16),
+}
+
+// Where a target being written stands: a binding, a cell, a field that its object (by its head) does not have yet, or nowhere.
+pub enum Place {
+    Binding(usize),
+    Cell(usize),
+    Absent(u32),
+    Nowhere(Refusal, u16),
 }
 
 impl Refusal {
