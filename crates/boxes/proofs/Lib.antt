@@ -1,0 +1,5 @@
+pub mod CellLaws
+pub mod ItemLaws
+pub mod FieldLaws
+pub mod EntryLaws
+pub mod EntryCells

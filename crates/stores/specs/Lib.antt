@@ -1,0 +1,5 @@
+pub mod Slot
+pub mod View
+pub mod Stores
+pub mod Pending
+pub mod Scopes
