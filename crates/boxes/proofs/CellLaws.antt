@@ -1,9 +1,8 @@
 -- The laws of one cell: what its words say, and what reads and stores of them do. Assumes nothing.
 use mathlib.Core.Path.{_≡_, refl, sym, ap, ap₂, _∙_, subst}
 use mathlib.Core.Logic.{_≢_}
-use mathlib.Core.Bool.{Bool, true, false, cond, true≢false}
+use mathlib.Core.Bool.{Bool, true, false, cond}
 use mathlib.Core.List.{List, [], _∷_, _++_}
-use mathlib.Core.Option.{some}
 use Prim.Native.Nat.{ℕ, _+_, _*_, _/_, _%_, _≤_, _<_}
 use native.Mathlib.Numerals.{add-two, add-three}
 use native.Mathlib.Omega.{arith}
@@ -15,14 +14,13 @@ use Rattle.rules.specs.declared.Value.{Value}
 use Rattle.rules.specs.declared.Value.the-variants.{Unit as VUnit}
 use Rattle.rules.specs.Store.{Cell, head, item, entry, withCells, countIn, valueIn, holding, itemAt, storedAt}
 use Rattle.stores.specs.declared.Found.the-variants.{At, Nothing}
-use Rattle.stores.specs.Slot.{slotOf, slotWords, valueOf, Put}
+use Rattle.slots.specs.Slot.{slotOf, slotWords, valueOf, Put}
 use Rattle.stores.specs.View.{recAt}
-use Rattle.stores.specs.Stores.{cellsOf, cellIn, cellsIn, storeOf, Fits, Kept, Became, BecameWords, Tried, TriedWords}
+use Rattle.stores.specs.Stores.{cellsOf, cellIn, cellsIn, storeOf, Fits, Became, BecameWords, Tried, TriedWords}
 use Rattle.boxes.specs.Cells.{CountIn, ItemAt, CellAt, fieldEntered}
-use Rattle.stores.proofs.Views.{length-view, view-get, view-set, view-push, rec-word}
-use Rattle.stores.proofs.Regions.{in-cells, fits-stored}
-use Rattle.stores.proofs.Chains.{kept-same}
-use Rattle.stores.proofs.Numbers.{cells-set, fits-set, kept-set}
+use Rattle.stores.proofs.Views.{view-get, view-push, rec-word}
+use Rattle.stores.proofs.Chains.{kept-same, refused, made, became-as}
+use Rattle.stores.proofs.Counted.{cells-counted, length-part, one-more, one-anew}
 
 -- ---- what the words of a cell say
 
@@ -81,8 +79,7 @@ module _ (words : List ℕ) (i : ℕ) where
 
 module _ (run words bytes : List ℕ) where
   pub length-cells : length (storeOf run words bytes .cells) ≡ cellsOf run
-  unfolding storeOf cellsIn
-  length-cells = length-view cellIn 1792 4 (cellsOf run) words
+  length-cells = length-part cells-counted run words bytes
 
   pub cell-get : (i : ℕ) → i < cellsOf run → getD (storeOf run words bytes .cells) i (head 0) ≡ cellIn (recAt 1792 4 i words)
   unfolding storeOf cellsIn
@@ -134,15 +131,6 @@ module _ (run words : List ℕ) (i : ℕ) where
   pub value-past : cellsOf run ≤ i → CellAt VUnit run words i
   value-past past = value-is (none-there past)
 
--- ---- what is kept where there is another count of cells
-
-module _ (run words bytes : List ℕ) where
-  pub kept-cells : (n : ℕ) → n ≤ 1024 → Fits run words → Kept run bytes (set run 5 n) words bytes
-  kept-cells n most f =
-      kept-set run words 5 n bytes
-      (fits-set run words 5 n f (omega arith) (λ e. absurd (omega (arith, e))) (λ e. absurd (omega (arith, e))) (λ e. most) (λ e. absurd (omega (arith, e))))
-      (omega arith) (omega arith)
-
 -- ---- another value in a cell
 
 -- the two words of a value in place of those of an item or an entry
@@ -155,19 +143,12 @@ cell-held words i v ne back =
 
 module _ (run words : List ℕ) (i : ℕ) (v : Value) (f : Fits run words) where
   pub store-owned : (words′ : List ℕ) → i < cellsOf run → what words i % 4 ≢ 0 → Put v (1792 + 4 * i) words words′ → BecameWords (λ σ. storedAt σ i v) run words run words′
-  unfolding storeOf cellsIn
   store-owned words′ below ne put bytes =
-      let σ = storeOf run words bytes in
-      let at = 1792 + 4 * i in
       subst (λ (w : List ℕ). Became (λ σ. storedAt σ i v) run words bytes run w bytes) (sym (put .stored))
-      record {
-        store =
-            in-cells run words bytes (slotWords v) at f (omega arith)
-            ∙ ap (λ (cs : List Cell). withCells cs σ)
-            (view-set cellIn 1792 4 (cellsOf run) i words (slotWords v) below (omega arith) (omega (arith, f .words-length, f .cells))
-            ∙ ap (set (σ .cells) i) (cell-held words i v ne (put .back) ∙ ap (holding v) (sym (cell-get run words bytes i below))));
-        kept = kept-same (fits-stored run words bytes (slotWords v) at f);
-      }
+      (became-as _ (λ σ. storedAt σ i v)
+      (ap (λ (x : Cell). withCells (set (storeOf run words bytes .cells) i x) (storeOf run words bytes))
+      (cell-held words i v ne (put .back) ∙ ap (holding v) (sym (cell-get run words bytes i below))))
+      (one-anew cells-counted run words i (1792 + 4 * i) (slotWords v) f refl (omega arith) below bytes))
 
   -- nothing is stored in a head, nor past the last cell
   store-none : {n : ℕ} → There run words i (head n) → BecameWords (λ σ. storedAt σ i v) run words run words
@@ -203,29 +184,17 @@ entry-words owner key v back = rw (what-kind owner 2 (omega arith), what-owner o
 module _ (owner key : ℕ) (v : Value) (run words : List ℕ) (f : Fits run words) where
   pub enter-full : 1024 ≤ cellsOf run → TriedWords false (fieldEntered owner key v) run words run words
   enter-full full bytes =
-      record {
-        did = rw (length-cells run words bytes, lt-leb (cellsOf run + 1) 1024 (omega arith));
-        undone = λ _. refl;
-        kept = kept-same f;
-      }
+      refused (fieldEntered owner key v) f (rw (length-cells run words bytes, lt-leb (cellsOf run + 1) 1024 (omega arith)))
 
   pub enter-made : (words′ : List ℕ) → cellsOf run < 1024 → Put v (1792 + 4 * cellsOf run) words words′
       → TriedWords true (fieldEntered owner key v) run words (set run 5 (cellsOf run + 1)) (set (set words′ (1792 + 4 * cellsOf run + 2) (4 * owner + 2)) (1792 + 4 * cellsOf run + 3) key)
-  unfolding storeOf
   enter-made words′ below put bytes =
-      let n = cellsOf run in
-      let at = 1792 + 4 * n in
+      let at = 1792 + 4 * cellsOf run in
       let vs = slotWords v ++ (4 * owner + 2) ∷ key ∷ [] in
-      let stored = sets words at vs in
-      subst (λ (w : List ℕ). Tried true (fieldEntered owner key v) run words bytes (set run 5 (n + 1)) w bytes)
+      subst (λ (w : List ℕ). Tried true (fieldEntered owner key v) run words bytes (set run 5 (cellsOf run + 1)) w bytes)
       (sym (ap (λ (w : List ℕ). set (set w (at + 2) (4 * owner + 2)) (at + 3) key) (put .stored) ∙ entry-stores words at (slotOf v .payload) (slotOf v .kind) (4 * owner + 2) key))
-      record {
-        did =
-            rw (length-cells run words bytes, le-leb (n + 1) 1024 (omega arith))
-            (ap some (sym (cells-set run stored bytes (n + 1) (f .run-length)
-            ∙ ap₂ withCells
-            (cells-push n words vs below (f .words-length) refl ∙ ap (λ (x : Cell). cellsIn n words ++ (x ∷ [])) (entry-words owner key v (put .back)))
-            (in-cells run words bytes vs at f (omega arith)))));
-        undone = λ e. absurd (true≢false e);
-        kept = kept-cells run stored bytes (n + 1) (omega arith) (fits-stored run words bytes vs at f);
-      }
+      (made (fieldEntered owner key v) (λ σ. withCells (σ .cells ++ (entry owner key v ∷ [])) σ)
+      (rw (length-cells run words bytes, le-leb (cellsOf run + 1) 1024 (omega arith)))
+      (became-as _ (λ σ. withCells (σ .cells ++ (entry owner key v ∷ [])) σ)
+      (ap (λ (x : Cell). withCells (storeOf run words bytes .cells ++ (x ∷ [])) (storeOf run words bytes)) (entry-words owner key v (put .back)))
+      (one-more cells-counted run words at vs f refl refl below bytes)))

@@ -5,7 +5,7 @@ use mathlib.Core.Bool.{Bool, true, false, cond}
 use mathlib.Core.List.{List, [], _∷_, _++_, map, map-append, append-assoc}
 use mathlib.Core.Option.{some, none}
 use Prim.Native.Nat.{ℕ, zero, suc, _+_, _-_, _*_, _/_, _%_, _≤_, _<_}
-use native.Mathlib.Nat.{add-zero, add-suc, suc-add}
+use native.Mathlib.Nat.{suc-add}
 use native.Mathlib.Numerals.{add-one}
 use native.Mathlib.Omega.{arith}
 use borrow.Author.Tests.{ne-eqb}
@@ -20,7 +20,9 @@ use Rattle.rules.specs.Building.{entered}
 use Rattle.stores.specs.View.{recAt}
 use Rattle.stores.specs.Stores.{slotIn, pendingIn, cellIn, cellsIn}
 use Rattle.boxes.specs.Entries.{keyIn, keysIn, keyAt, entriesOf, EntryPut}
-use Rattle.stores.proofs.Views.{stores-2, length-view, view-get, view-set, view-push, view-apart}
+use Rattle.texts.proofs.Parts.{sets-both}
+use Rattle.slots.proofs.Rows.{stores-2}
+use Rattle.stores.proofs.Views.{length-view, view-get, view-set, view-push, view-apart}
 use Rattle.boxes.proofs.EntryLaws.{keysOf, nothing, keyFrom, found-within, entered-new, entered-known}
 use Rattle.stores.proofs.Regions.{bindings-apart, pendings-apart}
 
@@ -35,12 +37,6 @@ set-append-right : {A : Type 0} (xs ys : List A) (i : ℕ) (a : A) → set (xs +
 set-append-right [] ys i a = ap (λ (k : ℕ). set ys k a) (omega arith)
 set-append-right (x ∷ xs) ys i a =
     ap (λ (k : ℕ). set (x ∷ xs ++ ys) k a) (suc-add (length xs) i) ∙ ap (λ (r : List _). x ∷ r) (set-append-right xs ys i a)
-
--- a run of stores after another
-sets-append : (vs ws l : List ℕ) (at : ℕ) → sets l at (vs ++ ws) ≡ sets (sets l at vs) (at + length vs) ws
-sets-append [] ws l at = ap (λ (k : ℕ). sets l k ws) (sym (add-zero at))
-sets-append (v ∷ vs) ws l at =
-    sets-append vs ws (set l at v) (suc at) ∙ ap (λ (k : ℕ). sets (sets (set l at v) (suc at) vs) k ws) (suc-add at (length vs) ∙ sym (add-suc at (length vs)))
 
 -- ---- a pending item's two words
 
@@ -203,7 +199,7 @@ module _ (image : List ℕ) (h : Header) (key head end at : ℕ) (words : List �
         let to = 1792 + 4 * end in
         let own = (4 * head + 2) ∷ key ∷ [] in
         let stored : sets words to (two ++ own) ≡ set (set (sets words to two) (to + 2) (4 * head + 2)) (to + 3) key =
-        sets-append two own words to
+        sets-both two own words to
         ∙ ap (λ (n : ℕ). sets (sets words to two) (to + n) own) length-two
         ∙ ap (λ (n : ℕ). set (set (sets words to two) (to + 2) (4 * head + 2)) n key) (omega arith) in
         subst (EntryPut image h head end key at (end + 1) words) stored

@@ -11,15 +11,16 @@ use lib.ListN.{length, getD, set, drop, length-drop, length-map}
 use lib.Seq.{sets, length-sets, getD-set-other}
 use Rattle.rules.specs.declared.Value.{Value}
 use Rattle.rules.specs.Store.{Cell, head, item, withCells, dropped}
-use Rattle.stores.specs.Slot.{valueOf}
+use Rattle.slots.specs.Slot.{valueOf}
 use Rattle.stores.specs.Stores.{boundOf, pendingOf, cellsOf, cellIn, pendingsIn, cellsIn, storeOf, Fits, BecameRun, TriedWords}
 use Rattle.boxes.specs.Cells.{CopiedItems, headWords, itemsTaken}
-use Rattle.stores.proofs.Views.{stores-4}
-use Rattle.stores.proofs.Regions.{bindings-apart, pendings-apart, in-cells, fits-stored}
+use Rattle.slots.proofs.Rows.{stores-4}
+use Rattle.stores.proofs.Regions.{bindings-apart, pendings-apart, in-cells, fits-words, fits-stored}
 use Rattle.stores.proofs.Numbers.{cells-set}
 use Rattle.stores.proofs.PendingLaws.{pendings-none, pendings-more, pendings-since, length-pending}
-use Rattle.boxes.proofs.CellLaws.{what-kind, what-owner, length-cells, cells-push, kept-cells}
-use Rattle.stores.proofs.Chains.{kept-same, kept-then}
+use Rattle.boxes.proofs.CellLaws.{what-kind, what-owner, length-cells, cells-push}
+use Rattle.stores.proofs.Chains.{refused, kept-then}
+use Rattle.stores.proofs.Counted.{cells-counted, recounted}
 
 -- ---- items copied
 
@@ -92,15 +93,7 @@ module _ (at from count : ℕ) (run words words′ : List ℕ) (f : Fits run wor
   store-copied bytes = rw (copied .bindings (boundOf run) (f .bindings), copied .pendings (pendingOf run) (f .pending))
 
   fits-copied : Fits run words′
-  fits-copied =
-      record {
-        run-length = f .run-length;
-        words-length = omega (arith, f .words-length, copied .long);
-        bindings = f .bindings;
-        pending = f .pending;
-        cells = f .cells;
-        text = f .text;
-      }
+  fits-copied = fits-words run words words′ f (copied .long)
 
 -- ---- items taken
 
@@ -115,11 +108,8 @@ module _ (from count : ℕ) (run words : List ℕ) (f : Fits run words) (since :
 
   pub take-full : 1024 < cellsOf run + 1 + count → TriedWords false (itemsTaken from) run words run words
   take-full full bytes =
-      record {
-        did = rw (length-cells run words bytes, length-map (drop from (storeOf run words bytes .pending)) (item (cellsOf run)), how-many bytes, lt-leb (cellsOf run + suc count) 1024 (omega arith));
-        undone = λ _. refl;
-        kept = kept-same f;
-      }
+      refused (itemsTaken from) f
+      (rw (length-cells run words bytes, length-map (drop from (storeOf run words bytes .pending)) (item (cellsOf run)), how-many bytes, lt-leb (cellsOf run + suc count) 1024 (omega arith)))
 
   -- the words once the head is written
   abbrev headed : List ℕ
@@ -152,5 +142,5 @@ module _ (from count : ℕ) (run words : List ℕ) (f : Fits run words) (since :
             ∙ ap₂ withCells (cells-taken words′ bytes room copied)
             (back .store ∙ ap (dropped from) (store-copied n from count run headed words′ headed-fits copied bytes ∙ ap (withCells _) (in-cells run words bytes (headWords count) (1792 + 4 * n) f (omega arith)))))));
         undone = λ e. absurd (true≢false e);
-        kept = kept-then (back .kept) (kept-cells run′ words′ bytes (n + 1 + count) room (back .kept .fits));
+        kept = kept-then (back .kept) (recounted cells-counted run′ words′ (n + 1 + count) (back .kept .fits) room bytes .kept);
       }

@@ -2,12 +2,12 @@
 // and an entry's key.
 use packed::layout::Header;
 use rules::Value;
+use slots::put_slot;
+use slots::value_of;
 use stores::Found;
 use stores::pending::drop_pending;
 use stores::pending::pending_since;
 use stores::run::CELLS;
-use stores::slot::put_slot;
-use stores::slot::value_of;
 use texts::same_part;
 ghost use mathlib.Core.Path.{_≡_};
 ghost use Prim.Native.Nat.{_+_, _-_, _*_, _≤_, _<_};

@@ -1,6 +1,7 @@
--- The laws of digits, and of a run of stores.
+-- The laws of digits, of a run of stores, and of a text put where there is room for it.
 use mathlib.Core.Path.{_≡_, refl, sym, ap, _∙_}
 use mathlib.Core.Bool.{Bool, true, false, cond, true≢false, false≢true}
+use mathlib.Core.Logic.{_⊎_, inl, inr, ⊎-elim}
 use mathlib.Core.List.{List, [], _∷_, _++_}
 use Prim.Native.Nat.{ℕ, zero, suc, _+_, _-_, _/_, _%_, _^_, _<_, _≤_}
 use native.Mathlib.Nat.{pow-suc, add-zero}
@@ -10,8 +11,8 @@ use lib.IntN.{ℤ, pos, negsuc, natAbs}
 use lib.Signed.{ltZ, leZ}
 use mir.Syntax.{w64}
 use mir.Val.{SFits}
-use lib.ListN.{length, set, length-append}
-use lib.Seq.{sets, sets-eq, set-comm}
+use lib.ListN.{length, set, take, drop, length-append}
+use lib.Seq.{sets, sets-eq, set-comm, length-sets, length-take-le, take-at, take-set-le}
 use borrow.Author.Tests.{lt-ltb, le-ltb, le-leb, lt-leb, ltb-true, leb-true, leb-false}
 use Rattle.numbers.specs.Decimal.{digits, digitsOf, decimalOf, hasRoom, putOf, endOf}
 use Rattle.numbers.specs.declared.decimal.Put.the-variants.{End, NoRoom}
@@ -115,6 +116,11 @@ first-last : (vs l : List ℕ) (i k v : ℕ) → i < k → set (sets l k vs) i v
 first-last [] l i k v h = refl
 first-last (a ∷ vs) l i k v h = first-last vs (set l k a) i (suc k) v (omega arith) ∙ ap (λ (m : List ℕ). sets m (suc k) vs) (set-comm l k i a v (omega arith))
 
+-- what stands before a run of stores
+pub take-sets : (n : ℕ) (vs l : List ℕ) (i : ℕ) → n ≤ i → take n (sets l i vs) ≡ take n l
+take-sets n [] l i h = refl
+take-sets n (v ∷ vs) l i h = take-sets n vs (set l i v) (suc i) (omega arith) ∙ take-set-le n l i v h
+
 -- an integer whose digits were put before its end, with the sign put last, if there is one
 pub put-neg : (x : ℤ) (l m : List ℕ) (at : ℕ) → ltZ x (pos 0) ≡ true
     → m ≡ sets l (at + length (decimalOf x) - length (digitsOf (natAbs x))) (digitsOf (natAbs x)) → set m at 45 ≡ sets l at (decimalOf x)
@@ -139,7 +145,7 @@ module _ (l : List ℕ) (at : ℕ) (text : List ℕ) where
   unfolding endOf putOf
   room m h e = rw (le-leb (at + length text) (length l) h) (refl, e ∙ sets-eq text l at h)
 
-  -- what a caller learns from an end
+  -- what a caller learns from an end, and from there being none
   pub ended : {n : ℕ} → End n ≡ endOf l at text → (n ≡ at + length text) × (n ≤ length l)
   unfolding endOf
   ended {n} e = go (hasRoom l at text) refl e
@@ -147,3 +153,34 @@ module _ (l : List ℕ) (at : ℕ) (text : List ℕ) where
       go : (t : Bool) → hasRoom l at text ≡ t → End n ≡ cond t (End (at + length text)) NoRoom → (n ≡ at + length text) × (n ≤ length l)
       go true r i = let same : n ≡ at + length text = cc in (same, omega (arith, leb-true (at + length text) (length l) r))
       go false r i = let z : _≡_ {A = ℕ} 0 1 = cc in absurd (omega arith)
+
+  pub not-ended : NoRoom ≡ endOf l at text → length l < at + length text
+  unfolding endOf
+  not-ended e = go (hasRoom l at text) refl e
+    where
+      go : (t : Bool) → hasRoom l at text ≡ t → NoRoom ≡ cond t (End (at + length text)) NoRoom → length l < at + length text
+      go true r i = let z : _≡_ {A = ℕ} 0 1 = cc in absurd (omega arith)
+      go false r i = leb-false (at + length text) (length l) r
+
+  -- nothing, or a run of stores
+  left-or-stored : (putOf l at text ≡ l) ⊎ (putOf l at text ≡ sets l at text)
+  unfolding putOf
+  left-or-stored = go (hasRoom l at text) refl
+    where
+      go : (t : Bool) → hasRoom l at text ≡ t
+          → (cond t (take at l ++ text ++ drop (at + length text) l) l ≡ l) ⊎ (cond t (take at l ++ text ++ drop (at + length text) l) l ≡ sets l at text)
+      go true r = inr (sym (sets-eq text l at (leb-true (at + length text) (length l) r)))
+      go false r = inl refl
+
+  pub take-put : (n : ℕ) → n ≤ at → take n (putOf l at text) ≡ take n l
+  take-put n h = ⊎-elim (λ e. ap (take n) e) (λ e. ap (take n) e ∙ take-sets n text l at h) left-or-stored
+
+  pub length-put : length (putOf l at text) ≡ length l
+  length-put = ⊎-elim (λ e. ap length e) (λ e. ap length e ∙ length-sets l at text) left-or-stored
+
+  pub take-put-end : at + length text ≤ length l → take (at + length text) (putOf l at text) ≡ take at l ++ text
+  unfolding putOf
+  take-put-end h =
+      rw (le-leb (at + length text) (length l) h)
+      (take-at (take at l ++ text) (drop (at + length text) l) (at + length text)
+      (length-append (take at l) text ∙ ap (λ (k : ℕ). k + length text) (length-take-le at l (omega arith))))

@@ -1,3 +1,2 @@
-// The packed image of document 01, edition 1: where its fields stand, and what they hold.
+// The packed image of document 01, edition 1: where its fields stand.
 pub mod layout; // header and records by their fields, and the places of the regions
-pub mod kinds; // 01's table of kinds

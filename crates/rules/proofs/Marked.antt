@@ -18,7 +18,7 @@ use Rattle.utf8.specs.Utf8.{utf8Of, utf8Past, charLen, starts, rowOf as utf8Row
 use Rattle.fields.proofs.Tests.{and-both}
 use Rattle.packed.specs.declared.layout.Header.{Header}
 use Rattle.packed.specs.Layout.{headerOf, nodeAt, functionAt, literalAt, partAt}
-use Rattle.packed.specs.Kinds.{rowOf, table, tagRole}
+use Rattle.kinds.specs.Kinds.{rowOf, table, tagRole}
 use Rattle.image.specs.declared.Loaded.{Loaded}
 use Rattle.image.specs.declared.Loaded.the-variants.{Image, BadLength, BadHeader, BadRecord, BadTree}
 use Rattle.image.specs.First.{firstFrom}

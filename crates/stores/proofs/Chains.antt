@@ -10,8 +10,12 @@ use Rattle.rules.specs.Store.{Store, withScope, withFloor}
 use Rattle.stores.specs.Stores.{storeOf, Fits, Kept, Became, Tried, BecameRun}
 use Rattle.stores.proofs.Numbers.{scope-set, floor-set, fits-set, kept-set}
 
+-- other bytes, as many, and the same
+pub kept-bytes : {run words bytes bytes′ : List ℕ} → Fits run words → length bytes′ ≡ length bytes → Kept run bytes run words bytes′
+kept-bytes f long = record { fits = f; room = long; takes = refl; rest = refl }
+
 pub kept-same : {run words bytes : List ℕ} → Fits run words → Kept run bytes run words bytes
-kept-same f = record { fits = f; room = refl; takes = refl; rest = refl }
+kept-same f = kept-bytes f refl
 
 pub kept-then : {run bytes run′ words′ bytes′ run″ words″ bytes″ : List ℕ}
     → Kept run bytes run′ words′ bytes′ → Kept run′ bytes′ run″ words″ bytes″ → Kept run bytes run″ words″ bytes″

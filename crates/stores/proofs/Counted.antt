@@ -7,12 +7,12 @@ use native.Mathlib.Omega.{arith}
 use lib.ListN.{length, getD, set, take, drop}
 use lib.Seq.{sets, take-all}
 use Rattle.rules.specs.declared.Value.{Value}
-use Rattle.rules.specs.Store.{Store, Binding, mostBindings, mostPending, withBindings, withPending}
+use Rattle.rules.specs.Store.{Cell, Store, Binding, mostBindings, mostPending, mostCells, withBindings, withPending, withCells}
 use Rattle.stores.specs.View.{recAt, view}
-use Rattle.stores.specs.Stores.{bindingIn, pendingIn, bindingsIn, pendingsIn, storeOf, Fits, BecameRun, BecameWords}
+use Rattle.stores.specs.Stores.{bindingIn, pendingIn, cellIn, bindingsIn, pendingsIn, cellsIn, storeOf, Fits, BecameRun, BecameWords}
 use Rattle.stores.proofs.Views.{length-view, view-take, view-push, view-set}
-use Rattle.stores.proofs.Regions.{in-bindings, in-pendings, fits-stored}
-use Rattle.stores.proofs.Numbers.{bound-set, pending-set, fits-set, kept-set}
+use Rattle.stores.proofs.Regions.{in-bindings, in-pendings, in-cells, fits-stored}
+use Rattle.stores.proofs.Numbers.{bound-set, pending-set, cells-set, fits-set, kept-set}
 use Rattle.stores.proofs.Chains.{kept-same, became-as, became-then}
 
 -- a list of the store, where its records lie and which number counts them
@@ -141,4 +141,22 @@ pending-counted =
       is = λ run words bytes. refl;
       counts = λ run words bytes x f. pending-set run words bytes x (f .run-length);
       stores = λ run words bytes at vs f above below. in-pendings run words bytes vs at f above (omega arith);
+    }
+
+abbrev pub the-cells : Region Cell
+the-cells = record { part = λ σ. σ .cells; put = withCells; decode = cellIn; base = 1792; stride = 4; most = mostCells; number = 5 }
+
+pub cells-counted : Counted the-cells
+unfolding storeOf cellsIn
+cells-counted =
+    record {
+      put-same = λ σ. refl;
+      put-put = λ rs rs′ σ. refl;
+      inside = omega arith;
+      is-number = (omega arith, omega arith);
+      limited = λ run words f. f .cells;
+      fits = λ run words x f h. fits-set run words 5 x f (omega arith) (λ e. absurd (omega (arith, e))) (λ e. absurd (omega (arith, e))) (λ e. h) (λ e. absurd (omega (arith, e)));
+      is = λ run words bytes. refl;
+      counts = λ run words bytes x f. cells-set run words bytes x (f .run-length);
+      stores = λ run words bytes at vs f above below. in-cells run words bytes vs at f above;
     }

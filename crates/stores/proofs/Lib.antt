@@ -1,4 +1,3 @@
-pub mod Slots
 pub mod Views
 pub mod Numbers
 pub mod Regions

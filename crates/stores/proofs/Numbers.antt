@@ -44,6 +44,13 @@ module _ (run words : List ℕ) (k x : ℕ) where
   kept-set bytes f above below =
       record { fits = f; room = refl; takes = other 0 (λ e. absurd (omega (arith, e))); rest = drop-set-lt 7 run k x below }
 
+-- so much text built
+pub kept-text : (run words : List ℕ) (x : ℕ) (bytes : List ℕ) → Fits run words → x ≤ 16384 → Kept run bytes (set run 6 x) words bytes
+kept-text run words x bytes f most =
+    kept-set run words 6 x bytes
+    (fits-set run words 6 x f (omega arith) (λ e. absurd (omega (arith, e))) (λ e. absurd (omega (arith, e))) (λ e. absurd (omega (arith, e))) (λ e. most))
+    (omega arith) (omega arith)
+
 module _ (run words bytes : List ℕ) (x : ℕ) (e : length run ≡ 16) where
   here : (k : ℕ) → k < 16 → getD (set run k x) k 0 ≡ x
   here k = same run words k x e

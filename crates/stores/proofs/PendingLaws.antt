@@ -7,7 +7,7 @@ use borrow.Author.Tests.{lt-ltb, le-ltb}
 use lib.ListN.{set, length, getD, drop, drop-of-length-le}
 use Rattle.rules.specs.declared.Value.{Value}
 use Rattle.rules.specs.Store.{withPending, pushed}
-use Rattle.stores.specs.Slot.{slotWords, Put, valueOf}
+use Rattle.slots.specs.Slot.{slotWords, Put, valueOf}
 use Rattle.stores.specs.Pending.{pushedIfRoom}
 use Rattle.stores.specs.Stores.{pendingOf, pendingIn, storeOf, Fits, Tried, TriedWords, pendingsIn}
 use Rattle.stores.proofs.Chains.{refused, made, became-as}

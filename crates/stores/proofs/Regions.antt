@@ -24,6 +24,18 @@ module _ (l vs : List ℕ) (at : ℕ) where
   unfolding cellsIn
   cells-apart n before = view-apart cellIn 1792 4 n l vs at (inl before)
 
+-- other words, as many
+pub fits-words : (run words words′ : List ℕ) → Fits run words → length words′ ≡ length words → Fits run words′
+fits-words run words words′ f long =
+    record {
+      run-length = f .run-length;
+      words-length = omega (arith, f .words-length, long);
+      bindings = f .bindings;
+      pending = f .pending;
+      cells = f .cells;
+      text = f .text;
+    }
+
 -- stores in one region make another list of it alone
 module _ (run words bytes vs : List ℕ) (at : ℕ) (f : Fits run words) where
   pub in-bindings : at + length vs ≤ 768 → storeOf run (sets words at vs) bytes ≡ withBindings (bindingsIn (boundOf run) (sets words at vs)) (storeOf run words bytes)
@@ -39,12 +51,4 @@ module _ (run words bytes vs : List ℕ) (at : ℕ) (f : Fits run words) where
   in-cells g = rw (bindings-apart words vs at (boundOf run) (f .bindings) (omega arith), pendings-apart words vs at (pendingOf run) (f .pending) (inr g))
 
   pub fits-stored : Fits run (sets words at vs)
-  fits-stored =
-      record {
-        run-length = f .run-length;
-        words-length = omega (arith, f .words-length, length-sets words at vs);
-        bindings = f .bindings;
-        pending = f .pending;
-        cells = f .cells;
-        text = f .text;
-      }
+  fits-stored = fits-words run words (sets words at vs) f (length-sets words at vs)

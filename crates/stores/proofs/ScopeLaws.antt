@@ -16,12 +16,13 @@ use Rattle.rules.specs.declared.Value.{Value}
 use Rattle.rules.specs.declared.Value.the-variants.{Unit as VUnit}
 use Rattle.rules.specs.Store.{Binding, orElse, lastOf, unbound, rebound, declared, arguments, opened, withScope, withFloor, withBindings}
 use Rattle.stores.specs.View.{recAt, view}
-use Rattle.stores.specs.Slot.{valueOf, slotOf, slotWords, Put}
+use Rattle.slots.specs.Slot.{valueOf, slotOf, slotWords, Put}
 use Rattle.stores.specs.declared.Found.{Found}
 use Rattle.stores.specs.declared.Found.the-variants.{At, Nothing}
 use Rattle.stores.specs.Scopes.{foundOf, BoundAt, argumentsBound, Copied}
 use Rattle.stores.specs.Stores.{boundOf, scopeOf, pendingOf, cellsOf, slotIn, bindingIn, pendingIn, bindingsIn, pendingsIn, storeOf, Fits, Became, Tried, BecameRun, BecameWords, TriedWords}
-use Rattle.stores.proofs.Views.{view-more, view-get, view-push, length-view, rec-word, stores-3}
+use Rattle.slots.proofs.Rows.{stores-3}
+use Rattle.stores.proofs.Views.{view-more, view-get, view-push, length-view, rec-word}
 use Rattle.stores.proofs.Regions.{pendings-apart, cells-apart}
 use Rattle.stores.proofs.PendingLaws.{pendings-since}
 use Rattle.stores.proofs.Chains.{kept-same, refused, made, became-as, became-then, run-then, became-scope, became-floor}

@@ -4,7 +4,7 @@ use mathlib.Core.Logic.{_⊎_, inl, inr, ⊎-elim}
 use mathlib.Core.List.{List, [], _∷_, _++_, append-assoc}
 use Prim.Native.Nat.{ℕ, zero, suc, _+_, _-_, _*_, _≤_, _<_}
 use native.Mathlib.Nat.{le-of-suc-le-suc, not-suc-le-zero, eq-or-lt-of-le, mul-le-mul-left, mul-suc, zero-add, suc-add}
-use native.Mathlib.Numerals.{add-one, add-two, add-three}
+use native.Mathlib.Numerals.{add-one}
 use native.Mathlib.Omega.{arith}
 use lib.ListN.{length, getD, set, take, drop, length-append, List·getD-append}
 use lib.Seq.{sets, sets-eq, drop-set-lt, drop-set-add, take-set-le, drop-at, take-at, length-take-le, set-append-left, set-at, getD-at, getD-take, getD-drop, take-append-add, drop-drop, take-nil, take-all, take-append-le}
@@ -111,13 +111,6 @@ module _ {R : Type 0} (d : List ℕ → R) (base stride : ℕ) where
       ∙ sym (set-append-left (view d base stride n l) (d (recAt base stride n l) ∷ []) i x (subst (λ (k : ℕ). i < k) (sym (length-view n l)) q)))
       (eq-or-lt-of-le (le-of-suc-le-suc below))
 
--- the stores of straight-line code are a run of stores
-pub stores-2 : (l : List ℕ) (at x y : ℕ) → set (set l at x) (at + 1) y ≡ sets l at (x ∷ y ∷ [])
-stores-2 l at x y = ap (λ (k : ℕ). set (set l at x) k y) (add-one at)
-
-pub stores-3 : (l : List ℕ) (at x y z : ℕ) → set (set (set l at x) (at + 1) y) (at + 2) z ≡ sets l at (x ∷ y ∷ z ∷ [])
-stores-3 l at x y z = ap₂ (λ (j k : ℕ). set (set (set l at x) j y) k z) (add-one at) (add-two at)
-
 -- record i of the first n, from its words
 pub view-get : {R : Type 0} (d : List ℕ → R) (base stride n i : ℕ) (l : List ℕ) (z : R) → i < n → getD (view d base stride n l) i z ≡ d (recAt base stride i l)
 unfolding view
@@ -136,10 +129,6 @@ view-get d base stride (suc n) i l z h =
 pub rec-word : (base stride i k : ℕ) (l : List ℕ) → k < stride → getD (recAt base stride i l) k 0 ≡ getD l (base + stride * i + k) 0
 unfolding recAt
 rec-word base stride i k l h = getD-take stride (drop (base + stride * i) l) k 0 h ∙ getD-drop (base + stride * i) l k 0
-
--- the stores of four words in a row
-pub stores-4 : (l : List ℕ) (at w x y z : ℕ) → set (set (set (set l at w) (at + 1) x) (at + 2) y) (at + 3) z ≡ sets l at (w ∷ x ∷ y ∷ z ∷ [])
-stores-4 l at w x y z = ap₂ (λ (j k : ℕ). set (set (set (set l at w) (at + 1) x) j y) k z) (add-two at) (add-three at) ∙ ap (λ (j : ℕ). set (set (set (set l at w) j x) (suc (suc at)) y) (suc (suc (suc at))) z) (add-one at)
 
 -- the first n of k records
 pub view-take : {R : Type 0} (d : List ℕ → R) (base stride n k : ℕ) (l : List ℕ) → n ≤ k → take n (view d base stride k l) ≡ view d base stride n l

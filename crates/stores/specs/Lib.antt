@@ -1,4 +1,3 @@
-pub mod Slot
 pub mod View
 pub mod Stores
 pub mod Pending

@@ -12,7 +12,7 @@ use Rattle.rules.specs.declared.Got.{Got}
 use Rattle.rules.specs.declared.Got.the-variants.{Is, Not}
 use Rattle.rules.specs.Building.{Made, gives, refuses}
 use Rattle.rules.specs.Store.{Cell, head, item, entry, Binding, Store, mostCells, mostText, mostBindings, mostPending}
-use Rattle.stores.specs.Slot.{valueOf}
+use Rattle.slots.specs.Slot.{valueOf}
 use Rattle.stores.specs.View.{view}
 
 -- ---- the run's numbers, by their places

@@ -2,7 +2,6 @@
 pub mod pending; // pending items
 pub mod run; // the run's numbers
 pub mod scopes; // bindings and scopes
-pub mod slot; // a value in two words
 
 // What was sought, by its number.
 pub enum Found {

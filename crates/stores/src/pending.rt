@@ -1,8 +1,8 @@
 // Pending items, in the order in which they were evaluated.
 use crate::run::PENDING;
-use crate::slot::put_slot;
-use crate::slot::value_of;
 use rules::Value;
+use slots::put_slot;
+use slots::value_of;
 ghost use mathlib.Core.Path.{_≡_};
 ghost use Prim.Native.Nat.{_-_, _≤_, _<_};
 ghost use Rattle.stores.specs.View.{recAt};

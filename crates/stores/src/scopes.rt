@@ -5,9 +5,9 @@ use crate::pending::pending_since;
 use crate::run::BOUND;
 use crate::run::FLOOR;
 use crate::run::SCOPE;
-use crate::slot::put_slot;
-use crate::slot::value_of;
 use rules::Value;
+use slots::put_slot;
+use slots::value_of;
 ghost use mathlib.Core.Path.{_≡_};
 ghost use Prim.Native.Nat.{_+_, _-_, _≤_, _<_};
 ghost use lib.ListN.{length, drop};
@@ -107,8 +107,8 @@ pub fn empty(run: &mut [u64; 16])
 pub fn close(run: &mut [u64; 16], scope: u64)
     ensures { λ _. ⌜ BecameRun (closed scope) (now (run .entry)) (now (run .exit)) ⌝ }
 {
-    empty(run);
-    run[SCOPE] = scope;
+    let from = run[SCOPE];
+    break_out(run, scope, from);
 }
 
 // Every scope from binding `from` on dropped, as a break leaves them; the one before begins at `scope`.

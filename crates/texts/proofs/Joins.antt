@@ -1,18 +1,17 @@
--- The laws of joined text: what a put leaves of the bytes before it, and the store after two of them. Assumes nothing.
-use mathlib.Core.Path.{_≡_, refl, sym, ap, ap₂, _∙_}
-use mathlib.Core.Bool.{Bool, true, false, cond}
-use mathlib.Core.Logic.{_⊎_, inl, inr, ⊎-elim}
+-- The laws of joined text: the store after two puts. Assumes nothing.
+use mathlib.Core.Path.{_≡_, sym, ap, ap₂, _∙_}
+use mathlib.Core.Bool.{cond}
 use mathlib.Core.List.{List, _++_, append-assoc}
 use Prim.Native.Nat.{ℕ, _+_, _-_, _≤_, _<_}
 use native.Mathlib.Omega.{arith}
-use borrow.Author.Tests.{le-leb, lt-leb, leb-true, leb-false}
+use borrow.Author.Tests.{le-leb, lt-leb}
 use lib.Dec.{leb}
-use lib.ListN.{length, set, take, drop, length-append}
-use lib.Seq.{sets, sets-eq, length-sets, length-take-le, take-at}
+use lib.ListN.{length, set, take, length-append}
+use lib.Seq.{length-take-le}
 use Rattle.packed.specs.declared.layout.Header.{Header}
 use Rattle.numbers.specs.declared.decimal.Put.the-variants.{End, NoRoom}
-use Rattle.numbers.specs.Decimal.{hasRoom, putOf, endOf}
-use Rattle.numbers.proofs.DecimalLaws.{ended}
+use Rattle.numbers.specs.Decimal.{putOf, endOf}
+use Rattle.numbers.proofs.DecimalLaws.{ended, not-ended, take-put, length-put, take-put-end}
 use Rattle.rules.specs.declared.Value.the-variants.{Text}
 use Rattle.rules.specs.declared.Refusal.the-variants.{TextBytes}
 use Rattle.rules.specs.declared.Got.{Got}
@@ -21,42 +20,8 @@ use Rattle.rules.specs.Store.{withText, textOf as textIn}
 use Rattle.rules.specs.Building.{gives, refuses, builtText}
 use Rattle.texts.specs.Text.{poolText, joined}
 use Rattle.stores.specs.Stores.{textOf, storeOf, MakesText}
-use Rattle.texts.proofs.Parts.{take-sets}
-use Rattle.stores.proofs.Numbers.{text-set, fits-set, kept-set}
-
--- ---- what a put leaves
-
-module _ (l : List ℕ) (at : ℕ) (text : List ℕ) where
-  not-ended : NoRoom ≡ endOf l at text → length l < at + length text
-  unfolding endOf
-  not-ended e = go (hasRoom l at text) refl e
-    where
-      go : (t : Bool) → hasRoom l at text ≡ t → NoRoom ≡ cond t (End (at + length text)) NoRoom → length l < at + length text
-      go true r i = let z : _≡_ {A = ℕ} 0 1 = cc in absurd (omega arith)
-      go false r i = leb-false (at + length text) (length l) r
-
-  -- nothing, or a run of stores
-  left-or-stored : (putOf l at text ≡ l) ⊎ (putOf l at text ≡ sets l at text)
-  unfolding putOf
-  left-or-stored = go (hasRoom l at text) refl
-    where
-      go : (t : Bool) → hasRoom l at text ≡ t
-          → (cond t (take at l ++ text ++ drop (at + length text) l) l ≡ l) ⊎ (cond t (take at l ++ text ++ drop (at + length text) l) l ≡ sets l at text)
-      go true r = inr (sym (sets-eq text l at (leb-true (at + length text) (length l) r)))
-      go false r = inl refl
-
-  take-put : (n : ℕ) → n ≤ at → take n (putOf l at text) ≡ take n l
-  take-put n h = ⊎-elim (λ e. ap (take n) e) (λ e. ap (take n) e ∙ take-sets n text l at h) left-or-stored
-
-  length-put : length (putOf l at text) ≡ length l
-  length-put = ⊎-elim (λ e. ap length e) (λ e. ap length e ∙ length-sets l at text) left-or-stored
-
-  take-put-end : at + length text ≤ length l → take (at + length text) (putOf l at text) ≡ take at l ++ text
-  unfolding putOf
-  take-put-end h =
-      rw (le-leb (at + length text) (length l) h)
-      (take-at (take at l ++ text) (drop (at + length text) l) (at + length text)
-      (length-append (take at l) text ∙ ap (λ (k : ℕ). k + length text) (length-take-le at l (omega arith))))
+use Rattle.stores.proofs.Numbers.{text-set, kept-text}
+use Rattle.stores.proofs.Chains.{kept-bytes, kept-then}
 
 -- ---- the store after two puts
 
@@ -97,17 +62,13 @@ module _ (image : List ℕ) (h : Header) (n start len start′ len′ : ℕ) (ru
         record {
           did = joined-is words ∙ rw (lt-leb (made + length (one ++ two)) 16384 over);
           undone = λ why place e. store-kept run words bytes bytes′ same;
-          kept = record { fits = f; room = long; takes = refl; rest = refl };
+          kept = kept-bytes f long;
         }
 
     given : (bytes′ : List ℕ) (end : ℕ) → end ≡ made + length (one ++ two) → end ≤ 16384
         → take end bytes′ ≡ take made bytes ++ (one ++ two) → length bytes′ ≡ length bytes
         → Joins (Is (Text (h .text + made) (end - made))) (set run 6 end) bytes′
     given bytes′ end e within same long words f =
-        let kept =
-        kept-set run words 6 end bytes
-        (fits-set run words 6 end f (omega arith) (λ q. absurd (omega (arith, q))) (λ q. absurd (omega (arith, q))) (λ q. absurd (omega (arith, q))) (λ q. within))
-        (omega arith) (omega arith) in
         let count : length (one ++ two) ≡ end - made = omega arith in
         record {
           did =
@@ -115,7 +76,7 @@ module _ (image : List ℕ) (h : Header) (n start len start′ len′ : ℕ) (ru
               ∙ rw (le-leb (made + length (one ++ two)) 16384 (omega arith), count, ← same)
               (ap (gives (Text (h .text + made) (end - made))) (sym (text-taken run words bytes bytes′ end (f .run-length))));
           undone = λ why place q. let z : _≡_ {A = ℕ} 0 1 = cc in absurd (omega arith);
-          kept = record { fits = kept .fits; room = long; takes = kept .takes; rest = kept .rest };
+          kept = kept-then (kept-bytes f long) (kept-text run words end bytes′ f within);
         }
 
     module _ (bytes₁ : List ℕ) (put₁ : bytes₁ ≡ putOf bytes made one) where

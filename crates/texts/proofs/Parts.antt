@@ -10,7 +10,8 @@ use native.Mathlib.Numerals.{add-one}
 use native.Mathlib.Omega.{arith}
 use borrow.Author.Tests.{eq-eqb, ne-eqb}
 use lib.ListN.{length, getD, set, take, drop, length-take, length-drop, drop-of-length-le}
-use lib.Seq.{sets, slice, slice-empty, length-slice, take-suc, take-all, take-take, take-nil, take-set-le, drop-nil, drop-drop, getD-take, getD-drop}
+use lib.Seq.{sets, slice, slice-empty, length-slice, take-suc, take-all, take-take, take-nil, drop-nil, drop-drop, getD-take, getD-drop}
+use Rattle.numbers.proofs.DecimalLaws.{take-sets}
 use Rattle.rules.specs.Store.{sameText}
 use Rattle.stores.proofs.Views.{drop-take}
 
@@ -82,10 +83,6 @@ sets-both [] ws l i = ap (λ (k : ℕ). sets l k ws) (sym (add-zero i))
 sets-both (v ∷ vs) ws l i =
     let next : suc i + length vs ≡ i + suc (length vs) = omega arith in
     sets-both vs ws (set l i v) (suc i) ∙ ap (λ (k : ℕ). sets (sets (set l i v) (suc i) vs) k ws) next
-
-pub take-sets : (n : ℕ) (vs l : List ℕ) (i : ℕ) → n ≤ i → take n (sets l i vs) ≡ take n l
-take-sets n [] l i h = refl
-take-sets n (v ∷ vs) l i h = take-sets n vs (set l i v) (suc i) (omega arith) ∙ take-set-le n l i v h
 
 module _ (source : List ℕ) (from at : ℕ) (l : List ℕ) where
   pub copied-none : l ≡ sets l at (slice from (from + 0) source)

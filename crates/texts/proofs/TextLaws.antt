@@ -14,12 +14,12 @@ use Rattle.packed.specs.declared.layout.Header.{Header}
 use Rattle.packed.specs.Layout.{textAt, sizeOf}
 use Rattle.numbers.specs.declared.decimal.Put.the-variants.{End, NoRoom}
 use Rattle.numbers.specs.Decimal.{putOf, endOf}
-use Rattle.numbers.proofs.DecimalLaws.{room, no-room}
+use Rattle.numbers.proofs.DecimalLaws.{room, no-room, take-sets}
 use Rattle.rules.specs.Store.{imageText, partText, sameText}
 use Rattle.texts.specs.declared.Span.{Span}
 use Rattle.texts.specs.Text.{Spans, firstPart, imagePart, literalPart, poolText}
 use Rattle.stores.proofs.Views.{drop-take}
-use Rattle.texts.proofs.Parts.{length-part, first-none, first-left, first-all, part-of-rest, part-of-both, sets-both, take-sets, other-text}
+use Rattle.texts.proofs.Parts.{length-part, first-none, first-left, first-all, part-of-rest, part-of-both, sets-both, other-text}
 
 -- ---- room, as it is tested
 
@@ -38,9 +38,6 @@ module _ (r : Bool) (at count total : ℕ) (e : r ≡ leb (at + count) total) wh
   has-room t = leb-true (at + count) total (sym e ∙ not-false r t)
 
 module _ (bytes : List ℕ) (at : ℕ) (text : List ℕ) (count : ℕ) (long : length text ≡ count) where
-  pub put-none : length bytes < at + count → (NoRoom ≡ endOf bytes at text) × (bytes ≡ putOf bytes at text)
-  put-none h = no-room bytes at text (omega arith)
-
   pub put-all : (bytes′ : List ℕ) → at + count ≤ length bytes → bytes′ ≡ sets bytes at text
       → (End (at + count) ≡ endOf bytes at text) × (bytes′ ≡ putOf bytes at text)
   put-all bytes′ h e =
@@ -120,7 +117,7 @@ module _ (image : List ℕ) (h : Header) (whole : sizeOf h ≤ length image) (ma
     pool-none over = go (decLe made (length bytes))
       where
         go : Dec (made ≤ length bytes) → (NoRoom ≡ endOf bytes at text) × (bytes ≡ putOf bytes at text)
-        go (yes p) = put-none bytes at text (a .count + b .count) (pool-length p) over
+        go (yes p) = no-room bytes at text (omega (arith, pool-length p))
         go (no p) = no-room bytes at text (omega arith)
 
     -- what was built stands before the copies

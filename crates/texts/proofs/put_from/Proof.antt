@@ -1,10 +1,11 @@
--- `texts::put_from` meets its contract: `put-none`, `put-all`. Assumes nothing.
+-- `texts::put_from` meets its contract: `no-room`, `put-all`. Assumes nothing.
 use Prim.Native.Nat.{_+_, _≤_}
 use native.Mathlib.Omega.{arith}
 use lib.ListN.{length}
 use lib.Seq.{slice}
+use Rattle.numbers.proofs.DecimalLaws.{no-room}
 use Rattle.texts.proofs.Parts.{length-part}
-use Rattle.texts.proofs.TextLaws.{lacks-room, has-room, put-none, put-all}
+use Rattle.texts.proofs.TextLaws.{lacks-room, has-room, put-all}
 use borrow.Author.Needs.{needs}
 use Rattle.texts.proofs.put_from.Statement.{statement}
 use Rattle.texts.proofs.put_from.Tie as tie
@@ -19,8 +20,8 @@ returns : tie.Need-returns
 returns c =
     let s = c .before .before .before .before in
     let a = s .args in
-    put-none (a .bytes .now) (a .at) (slice (a .from) (a .from + a .count) (a .source .now)) (a .count) (length-part _ _ _ (s .pre))
-    (lacks-room _ _ _ _ (c .before .has-room .ensures) (c .if1 .taken))
+    no-room (a .bytes .now) (a .at) (slice (a .from) (a .from + a .count) (a .source .now))
+    (omega (arith, length-part (a .from) (a .count) (a .source .now) (s .pre), lacks-room _ (a .at) (a .count) (length (a .bytes .now)) (c .before .has-room .ensures) (c .if1 .taken)))
 
 copy-from-requires : tie.Need-copy-from-requires
 copy-from-requires c κs = (c .before .before .before .before .before .pre, room (c .before))

@@ -2,7 +2,7 @@
 use Prim.Native.Nat.{_+_, _*_}
 use native.Mathlib.Omega.{arith}
 use lib.ListN.{length-set}
-use Rattle.stores.proofs.Views.{stores-4}
+use Rattle.slots.proofs.Rows.{stores-4}
 use borrow.Author.Needs.{needs}
 use Rattle.boxes.proofs.cells.put_head.Statement.{statement}
 use Rattle.boxes.proofs.cells.put_head.Tie as tie

@@ -3,7 +3,7 @@ use mathlib.Core.Path.{sym, ap, ap₂, _∙_}
 use Prim.Native.Nat.{ℕ}
 use native.Mathlib.Omega.{arith}
 use lib.ListN.{getD}
-use Rattle.stores.specs.Slot.{valueOf}
+use Rattle.slots.specs.Slot.{valueOf}
 use Rattle.stores.specs.Stores.{pendingIn}
 use Rattle.stores.proofs.Views.{rec-word}
 use borrow.Author.Needs.{needs}

@@ -1,17 +1,21 @@
--- `stores::scopes::close` meets its contract: `run-then`, `became-scope`. Assumes nothing.
-use Rattle.stores.proofs.Chains.{run-then, became-scope}
+-- `stores::scopes::close` meets its contract: what `break_out` leaves, at the scope's number. Assumes nothing.
+use mathlib.Core.Path.{refl}
+use Rattle.rules.specs.Store.{closed}
+use Rattle.stores.specs.Stores.{storeOf}
+use Rattle.stores.proofs.Chains.{became-as}
 use borrow.Author.Needs.{needs}
 use Rattle.stores.proofs.scopes.close.Statement.{statement}
 use Rattle.stores.proofs.scopes.close.Tie as tie
 
-empty-requires : tie.Need-empty-requires
-empty-requires c κs = search needs
+element-copy-out-from : tie.Need-element-copy-out-from
+element-copy-out-from c = search needs
 
-element-write-run : tie.Need-element-write-run
-element-write-run c = search needs
+break-out-requires : tie.Need-break-out-requires
+break-out-requires c κs = search needs
 
 returns : tie.Need-returns
-returns c = run-then (c .empty .ensures) (became-scope _ _)
+unfolding storeOf
+returns c words bytes f = became-as _ (closed _) refl (c .break-out .ensures words bytes f)
 
 pub close-spec : {M : Type 1} → statement M
-close-spec = tie.close (tie.spec empty-requires element-write-run returns)
+close-spec = tie.close (tie.spec element-copy-out-from break-out-requires returns)

@@ -1,9 +1,0 @@
-pub mod Tags
-pub mod TargetLaws
-pub mod TargetNodes
-pub mod MakingLaws
-pub mod ChainLaws
-pub mod ObjectLaws
-pub mod ObjectMade
-pub mod TemplateLaws
-pub mod TemplateMade

@@ -1,0 +1,3 @@
+pub mod Tags
+pub mod TargetLaws
+pub mod TargetNodes
