@@ -66,11 +66,13 @@ fn targets(n: usize) -> Vec<u8> {
     image(nodes, unit(), vec![])
 }
 
-// 4,095 text literals that all name the whole text of 65,535 bytes, of characters of that many bytes.
-fn texts(character: &str) -> Vec<u8> {
-    let mut text = character.repeat(65_535 / character.len()).into_bytes();
-    text.resize(65_535, b'a');
-    image(vec![node(9, 0, 0, 0)], vec![literal(6, 65_535); 4_095], text)
+// 4,095 text literals that all name a text of so many bytes from its second character on, which takes the longest: the place where the
+// first one starts is kept with its stop.
+fn texts(character: &str, bytes: usize) -> Vec<u8> {
+    let mut text = character.repeat(bytes / character.len()).into_bytes();
+    text.resize(bytes, b'a');
+    let part = character.len() << 16 | (bytes - character.len());
+    image(vec![node(9, 0, 0, 0)], vec![literal(6, part as u64); 4_095], text)
 }
 
 // The best time of one load in microseconds.
@@ -101,8 +103,10 @@ fn main() {
             time(&targets(n), loads / 10)
         );
     }
-    println!("4,095 literals of the whole text of 65,535 bytes");
-    for character in ["a", "é", "€", "😀"] {
-        println!("{:>6} bytes a character {:>10.0}", character.len(), time(&texts(character), 1));
+    println!("4,095 literals that name one text, by its bytes and those of a character");
+    println!("{:>6} {:>10} {:>10} {:>10} {:>10}", "bytes", 1, 2, 3, 4);
+    for bytes in [1_000, 10_000, 65_535] {
+        let times = ["a", "é", "€", "😀"].map(|character| time(&texts(character, bytes), 20));
+        println!("{:>6} {:>10.0} {:>10.0} {:>10.0} {:>10.0}", bytes, times[0], times[1], times[2], times[3]);
     }
 }

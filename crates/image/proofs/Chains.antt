@@ -11,11 +11,11 @@ use borrow.Author.Tests.{lt-ltb, le-ltb, eq-eqb, ne-eqb}
 use lib.Dec.{eqb}
 use Rattle.packed.specs.declared.layout.Header.{Header}
 use Rattle.packed.specs.declared.layout.Node.{Node}
-use Rattle.packed.specs.declared.kinds.Class.{Class}
-use Rattle.packed.specs.declared.kinds.Role.{Role}
-use Rattle.packed.specs.declared.kinds.Role.the-variants.{Unlisted, Number, Literal, Text, Function, Node as NodeRole}
+use Rattle.kinds.specs.declared.Class.{Class}
+use Rattle.kinds.specs.declared.Role.{Role}
+use Rattle.kinds.specs.declared.Role.the-variants.{Unlisted, Number, Literal, Text, Function, Node as NodeRole}
 use Rattle.packed.specs.Layout.{nodeAt}
-use Rattle.packed.specs.Kinds.{isOf, rowOf}
+use Rattle.kinds.specs.Kinds.{isOf, rowOf}
 use Rattle.image.specs.declared.Loaded.the-variants.{Image}
 use Rattle.image.specs.Tree.{named, times, namesOf, bodies, nodeNames, namings, heading, marked, chainBy}
 use Rattle.image.specs.Load.{loadOf}

@@ -9,9 +9,9 @@ use lib.Dec.{leb, ltb, eqb}
 use Rattle.fields.proofs.Tests.{and-both}
 use Rattle.packed.specs.declared.layout.Header.{Header}
 use Rattle.packed.specs.declared.layout.Node.{Node}
-use Rattle.packed.specs.declared.kinds.Role.{Role}
-use Rattle.packed.specs.declared.kinds.Role.the-variants.{Unlisted, Number, Literal, Text, Function, Node as NodeRole}
-use Rattle.packed.specs.Kinds.{rowOf, tagRole}
+use Rattle.kinds.specs.declared.Role.{Role}
+use Rattle.kinds.specs.declared.Role.the-variants.{Unlisted, Number, Literal, Text, Function, Node as NodeRole}
+use Rattle.kinds.specs.Kinds.{rowOf, tagRole}
 use Rattle.image.specs.Records.{fits, nodeGood}
 use Rattle.image.specs.Tree.{named}
 

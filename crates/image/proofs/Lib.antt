@@ -8,3 +8,4 @@ pub mod Marking
 pub mod Exact
 pub mod Loads
 pub mod Chains
+pub mod Texts

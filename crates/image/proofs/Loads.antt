@@ -14,17 +14,17 @@ use Rattle.utf8.specs.Utf8.{utf8Of}
 use Rattle.fields.proofs.Tests.{and-both}
 use Rattle.packed.specs.declared.layout.Header.{Header}
 use Rattle.packed.specs.declared.layout.Node.{Node}
-use Rattle.packed.specs.declared.kinds.Class.{Class}
-use Rattle.packed.specs.declared.kinds.Class.the-variants.{Expression, Scope}
-use Rattle.packed.specs.declared.kinds.KindRow.{KindRow}
-use Rattle.packed.specs.declared.kinds.Role.{Role}
-use Rattle.packed.specs.declared.kinds.Role.the-variants.{Unlisted, Number, Literal, Text, Function, Node as NodeRole}
+use Rattle.kinds.specs.declared.Class.{Class}
+use Rattle.kinds.specs.declared.Class.the-variants.{Expression, Scope}
+use Rattle.kinds.specs.declared.KindRow.{KindRow}
+use Rattle.kinds.specs.declared.Role.{Role}
+use Rattle.kinds.specs.declared.Role.the-variants.{Unlisted, Number, Literal, Text, Function, Node as NodeRole}
 use Rattle.image.specs.declared.first.Found.the-variants.{Nowhere}
 use Rattle.image.specs.declared.Loaded.{Loaded}
 use Rattle.image.specs.declared.Loaded.the-variants.{Image}
 use Rattle.image.specs.First.{Never}
 use Rattle.packed.specs.Layout.{nodeAt, literalAt, partAt, functionAt}
-use Rattle.packed.specs.Kinds.{isOf, rowOf, table, none}
+use Rattle.kinds.specs.Kinds.{isOf, rowOf, table, none}
 use Rattle.image.specs.Records.{fits, partGood, partOf, payloadGood, literalGood, functionGood, recordBad, recordsIn, badRecord}
 use Rattle.image.specs.Tree.{named, times, bodies, namings, heading, chainBy, goes, parts, namesWell, isNamedWell, nodeRight, atFault}
 use Rattle.image.specs.Load.{loadOf}

@@ -10,7 +10,7 @@ use lib.Dec.{ltb}
 use lib.ListN.{length, getD, set, length-set}
 use lib.Seq.{getD-set-same, getD-set-other}
 use Rattle.packed.specs.declared.layout.Node.{Node}
-use Rattle.packed.specs.Kinds.{rowOf}
+use Rattle.kinds.specs.Kinds.{rowOf}
 use Rattle.image.specs.Tree.{heading, marked, says, Holds}
 
 module _ (l : List ℕ) (n to kind : ℕ) (long : length l ≡ 4096) where

@@ -6,9 +6,9 @@ use native.Mathlib.Nat.{le-refl}
 use types.Run.{OneOf, miss}
 use denote.Enum.Declared.{tagOf}
 use borrow.Author.Needs.{zero≤}
-use Rattle.packed.proofs.kinds.Role.{the-type}
-use Rattle.packed.specs.declared.kinds.Role.{Role}
-use Rattle.packed.specs.declared.kinds.Role.the-variants.{Unlisted, Number, Literal, Text, Function, Node}
+use Rattle.kinds.proofs.Role.{the-type}
+use Rattle.kinds.specs.declared.Role.{Role}
+use Rattle.kinds.specs.declared.Role.the-variants.{Unlisted, Number, Literal, Text, Function, Node}
 use Rattle.image.specs.Tree.{named}
 
 -- what has one answer at each such role has it at this one

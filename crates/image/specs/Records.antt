@@ -9,13 +9,13 @@ use Rattle.packed.specs.declared.layout.Header.{Header}
 use Rattle.packed.specs.declared.layout.Function.{Function}
 use Rattle.packed.specs.declared.layout.Node.{Node}
 use Rattle.packed.specs.declared.layout.Part.{Part}
-use Rattle.packed.specs.declared.kinds.Role.{Role}
-use Rattle.packed.specs.declared.kinds.Role.the-variants.{Unlisted, Number, Literal, Text, Function as FunctionRole, Node as NodeRole}
+use Rattle.kinds.specs.declared.Role.{Role}
+use Rattle.kinds.specs.declared.Role.the-variants.{Unlisted, Number, Literal, Text, Function as FunctionRole, Node as NodeRole}
 use Rattle.image.specs.declared.first.Found.{Found}
 use Rattle.image.specs.declared.first.Found.the-variants.{At, Nowhere}
 use Rattle.image.specs.First.{firstFrom}
-use Rattle.packed.specs.Layout.{textAt, functionOffset, nodeOffset, literalOffset, functionAt, nodeAt, literalAt, partAt}
-use Rattle.packed.specs.Kinds.{isWithin, rowOf, tagRole}
+use Rattle.packed.specs.Layout.{textAt, sizeOf, functionOffset, nodeOffset, literalOffset, functionAt, nodeAt, literalAt, partAt}
+use Rattle.kinds.specs.Kinds.{isWithin, rowOf, tagRole}
 
 -- the number of a node
 abbrev pub isNode : ℕ → ℕ → Bool
@@ -47,6 +47,9 @@ nodeGood image h d =
 -- a Unicode scalar value
 abbrev pub isScalar : ℕ → Bool
 isScalar x = leb x 0xD7FF || isWithin 0xE000 0x10FFFF x
+
+abbrev pub imageText : List ℕ → Header → List ℕ
+imageText image h = slice (textAt h) (sizeOf h) image
 
 -- a part lies within the text; its bytes
 unfoldable pub partGood : Header → Part → Bool

@@ -8,13 +8,13 @@ use lib.Dec.{leb, ltb, eqb}
 use lib.ListN.{getD, length}
 use Rattle.packed.specs.declared.layout.Header.{Header}
 use Rattle.packed.specs.declared.layout.Node.{Node}
-use Rattle.packed.specs.declared.kinds.Class.the-variants.{Expression, Scope}
-use Rattle.packed.specs.declared.kinds.Role.{Role}
-use Rattle.packed.specs.declared.kinds.Role.the-variants.{Unlisted, Number, Literal, Text, Function, Node as NodeRole}
+use Rattle.kinds.specs.declared.Class.the-variants.{Expression, Scope}
+use Rattle.kinds.specs.declared.Role.{Role}
+use Rattle.kinds.specs.declared.Role.the-variants.{Unlisted, Number, Literal, Text, Function, Node as NodeRole}
 use Rattle.image.specs.declared.first.Found.{Found}
 use Rattle.image.specs.First.{firstFrom}
 use Rattle.packed.specs.Layout.{functionAt, nodeAt}
-use Rattle.packed.specs.Kinds.{isWithin, isOf, rowOf}
+use Rattle.kinds.specs.Kinds.{isWithin, isOf, rowOf}
 use Rattle.image.specs.Records.{nodeGood}
 
 -- ---- "each node is named exactly once, counting the root and body fields"

@@ -1,7 +1,7 @@
 // Refusal 3: the first bad record, in the order of the image.
 use crate::first::Found;
-use packed::kinds::Role;
-use packed::kinds::row_of;
+use kinds::Role;
+use kinds::row_of;
 use packed::layout::Function;
 use packed::layout::Header;
 use packed::layout::Node;
@@ -12,17 +12,20 @@ use packed::layout::literals_at;
 use packed::layout::node_at;
 use packed::layout::nodes_at;
 use packed::layout::part_at;
+use packed::layout::size_of;
 use packed::layout::text_at;
 use utf8::is_utf8;
+use utf8::stops_of;
 ghost use mathlib.Core.Path.{_≡_};
 ghost use Prim.Native.Nat.{_+_, _≤_, _<_};
 ghost use lib.ListN.{length};
 ghost use lib.Dec.{ltb, eqb};
-ghost use mathlib.Core.Bool.{_&&_};
+ghost use mathlib.Core.Bool.{true, _&&_};
 ghost use Rattle.utf8.specs.Utf8.{utf8Of};
+ghost use Rattle.utf8.specs.Runs.{Stops};
 ghost use Rattle.packed.specs.Layout.{sizeOf, literalAt};
-ghost use Rattle.packed.specs.Kinds.{tagRole};
-ghost use Rattle.image.specs.Records.{isNode, functionGood, fits as fitsOf, nodeGood, isScalar, partGood, partOf, payloadGood, literalGood, recordGood, recordOffset, recordsIn, badRecord};
+ghost use Rattle.kinds.specs.Kinds.{tagRole};
+ghost use Rattle.image.specs.Records.{isNode, functionGood, fits as fitsOf, nodeGood, isScalar, imageText, partGood, partOf, payloadGood, literalGood, recordGood, recordOffset, recordsIn, badRecord};
 
 pub fn is_node(x: u16, nodes: u16) -> bool
     ensures { λ r. ⌜ r ≡ isNode nodes x ⌝ }
@@ -133,15 +136,25 @@ fn part_good(h: Header, p: Part) -> bool
     p.start as usize + p.length as usize <= h.text as usize
 }
 
-fn part_is_utf8(image: &[u8], h: Header, p: Part) -> bool
+fn part_is_utf8(image: &[u8], h: Header, stops: &[u32; 1024], p: Part) -> bool
+    requires { ⌜ (partGood h p ≡ true) × (sizeOf h ≤ length (now image)) × Stops (imageText (now image) h) (now stops) ⌝ }
     ensures { λ r. ⌜ r ≡ utf8Of (partOf (now (image .entry)) h p) ⌝ }
 {
-    let from = text_at(h) + p.start as usize;
-    is_utf8(image, from, from + p.length as usize)
+    let at = text_at(h);
+    let end = size_of(h);
+    let from = p.start as usize;
+    is_utf8(&image[at..end], stops, from, from + p.length as usize)
 }
 
-fn payload_good(image: &[u8], h: Header, l: usize, kind: u8, payload: u64) -> bool
-    requires { ⌜ (l < h .literals) × (sizeOf h ≤ length (now image)) ⌝ }
+fn payload_good(
+    image: &[u8],
+    h: Header,
+    stops: &[u32; 1024],
+    l: usize,
+    kind: u8,
+    payload: u64,
+) -> bool
+    requires { ⌜ (l < h .literals) × (sizeOf h ≤ length (now image)) × Stops (imageText (now image) h) (now stops) ⌝ }
     ensures { λ r. ⌜ r ≡ payloadGood (now (image .entry)) h l kind payload ⌝ }
 {
     match kind {
@@ -152,7 +165,7 @@ fn payload_good(image: &[u8], h: Header, l: usize, kind: u8, payload: u64) -> bo
         6 => {
             let p = part_at(image, h, l);
             if part_good(h, p) {
-                part_is_utf8(image, h, p)
+                part_is_utf8(image, h, stops, p)
             } else {
                 false
             }
@@ -162,20 +175,20 @@ fn payload_good(image: &[u8], h: Header, l: usize, kind: u8, payload: u64) -> bo
     }
 }
 
-fn literal_good(image: &[u8], h: Header, l: usize) -> bool
-    requires { ⌜ (l < h .literals) × (sizeOf h ≤ length (now image)) ⌝ }
+fn literal_good(image: &[u8], h: Header, stops: &[u32; 1024], l: usize) -> bool
+    requires { ⌜ (l < h .literals) × (sizeOf h ≤ length (now image)) × Stops (imageText (now image) h) (now stops) ⌝ }
     ensures { λ r. ⌜ r ≡ literalGood (now (image .entry)) h l ⌝ }
 {
     let d = literal_at(image, h, l);
     if d.zero != 0 {
         return false;
     }
-    payload_good(image, h, l, d.kind, d.payload)
+    payload_good(image, h, stops, l, d.kind, d.payload)
 }
 
 // Record r of the image, counted from 0 through functions, nodes and literals.
-fn record_good(image: &[u8], h: Header, r: usize) -> bool
-    requires { ⌜ (r < recordsIn h) × (sizeOf h ≤ length (now image)) ⌝ }
+fn record_good(image: &[u8], h: Header, stops: &[u32; 1024], r: usize) -> bool
+    requires { ⌜ (r < recordsIn h) × (sizeOf h ≤ length (now image)) × Stops (imageText (now image) h) (now stops) ⌝ }
     ensures { λ g. ⌜ g ≡ recordGood (now (image .entry)) h r ⌝ }
 {
     let functions = h.functions as usize;
@@ -186,7 +199,7 @@ fn record_good(image: &[u8], h: Header, r: usize) -> bool
     if r - functions < nodes {
         return node_good(image, h, node_at(image, h, r - functions + 1));
     }
-    literal_good(image, h, r - functions - nodes)
+    literal_good(image, h, stops, r - functions - nodes)
 }
 
 fn record_offset(h: Header, r: usize) -> usize
@@ -204,15 +217,26 @@ fn record_offset(h: Header, r: usize) -> usize
     literals_at(h) + 10 * (r - functions - nodes)
 }
 
+// They are made once for the whole text: literals may all name the same bytes.
+fn text_stops(image: &[u8], h: Header) -> [u32; 1024]
+    requires { ⌜ sizeOf h ≤ length (now image) ⌝ }
+    ensures { λ r. ⌜ Stops (imageText (now (image .entry)) h) r ⌝ }
+{
+    let at = text_at(h);
+    let end = size_of(h);
+    stops_of(&image[at..end])
+}
+
 // Where the first bad record stands.
 pub fn bad_record(image: &[u8], h: Header) -> Found
     requires { ⌜ sizeOf h ≤ length (now image) ⌝ }
     ensures { λ r. ⌜ r ≡ badRecord (now (image .entry)) h ⌝ }
 {
     let records = h.functions as usize + h.nodes as usize + h.literals as usize;
+    let stops = text_stops(image, h);
     let mut r = 0;
     while r < records {
-        if !record_good(image, h, r) {
+        if !record_good(image, h, &stops, r) {
             return Found::At(record_offset(h, r));
         }
         r = r + 1;

@@ -1,11 +1,11 @@
 // Refusal 4: the lowest node at fault.
 use crate::first::Found;
-use packed::kinds::Class;
-use packed::kinds::Role;
-use packed::kinds::is_expression;
-use packed::kinds::is_of;
-use packed::kinds::is_part;
-use packed::kinds::row_of;
+use kinds::Class;
+use kinds::Role;
+use kinds::is_expression;
+use kinds::is_of;
+use kinds::is_part;
+use kinds::row_of;
 use packed::layout::Header;
 use packed::layout::Node;
 use packed::layout::function_at;
@@ -16,7 +16,7 @@ ghost use mathlib.Core.List.{[], _∷_};
 ghost use lib.ListN.{length, getD};
 ghost use Rattle.packed.specs.Layout.{sizeOf, nodeAt};
 ghost use Rattle.image.specs.Tree.{named as namedOf, namesOf, bodies as bodiesOf, nodeNames, heading as headingOf, marked, says, chainBy, goes as goesOf, parts as partsOf, namesWell, isNamedWell, nodeRight, lowestFault, Added, Holds, Surveyed, GoodNodes};
-ghost use Rattle.packed.specs.Kinds.{isOf};
+ghost use Rattle.kinds.specs.Kinds.{isOf};
 ghost use Rattle.image.specs.Records.{nodeGood};
 ghost use mathlib.Core.Bool.{true, not, _||_};
 ghost use lib.Dec.{eqb};

@@ -1,6 +1,6 @@
 -- The laws of the test: of ranges that bytes start with, of a first byte's row, of a character, and of the characters after it.
 -- Assumes nothing.
-use mathlib.Core.Path.{_≡_, refl, sym, ap, _∙_}
+use mathlib.Core.Path.{_≡_, refl, sym, ap}
 use mathlib.Core.Bool.{Bool, true, false, cond, _&&_, and-true, and-eq-true-iff, false≢true}
 use mathlib.Core.List.{List, [], _∷_, List·Memᴰ, List·Memᴰ·head, List·Memᴰ·tail}
 use Prim.Native.Nat.{ℕ, zero, suc, _+_, _-_, _≤_, _<_}
@@ -10,7 +10,6 @@ use native.Mathlib.Omega.{arith}
 use borrow.Author.Tests.{le-leb}
 use lib.Dec.{leb}
 use lib.ListN.{length, drop, length-drop}
-use lib.Seq.{drop-drop}
 use Rattle.utf8.specs.Utf8.{Range, within, table, starts, rowOf, charLen, utf8Past, utf8Of}
 
 -- ---- ranges that bytes start with
@@ -77,12 +76,5 @@ utf8-step (first ∷ rest) h = go (charLen (first ∷ rest)) (charLen-le (first 
     go zero l = refl
     go (suc n) l = rw (le-leb 1 (suc n) (omega arith), sub-one (suc n)) (skip n rest (le-of-suc-le-suc l))
 
--- the same at a place
-module _ (bytes : List ℕ) (at len : ℕ) (below : at < length bytes) (is-len : len ≡ charLen (drop at bytes)) where
-  pub char-within : at + len ≤ length bytes
-  char-within = omega (arith, charLen-le (drop at bytes), length-drop at bytes)
-
-  pub utf8-at : utf8Of (drop at bytes) ≡ (leb 1 len && utf8Of (drop (at + len) bytes))
-  utf8-at =
-      let l : 0 < length (drop at bytes) = omega (arith, length-drop at bytes) in
-      utf8-step (drop at bytes) l ∙ rw (← is-len, drop-drop len at bytes) refl
+pub char-within : (bytes : List ℕ) (at len : ℕ) → at < length bytes → len ≡ charLen (drop at bytes) → at + len ≤ length bytes
+char-within bytes at len below is-len = omega (arith, charLen-le (drop at bytes), length-drop at bytes)

@@ -73,11 +73,11 @@ tails (suc n) = refl
 abbrev Shaped : List Range → Type 0
 Shaped row = drop 1 row ≡ following (length row - 1) (getD row 1 (0, 0))
 
-abbrev Each : (List Range → Type 0) → List (List Range) → Type 0
+abbrev pub Each : (List Range → Type 0) → List (List Range) → Type 0
 Each P [] = Unit
 Each P (row ∷ rows) = P row × Each P rows
 
-each-in : (P : List Range → Type 0) {row : List Range} {rows : List (List Range)} → List·Memᴰ row rows → Each P rows → P row
+pub each-in : (P : List Range → Type 0) {row : List Range} {rows : List (List Range)} → List·Memᴰ row rows → Each P rows → P row
 each-in P (List·Memᴰ·head e) each = subst P (sym e) (each .0)
 each-in P (List·Memᴰ·tail m) each = each-in P m (each .1)
 

@@ -1,3 +1,4 @@
 pub mod Chars
 pub mod Leads
 pub mod Grammar
+pub mod Runs

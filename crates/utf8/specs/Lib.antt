@@ -1,3 +1,4 @@
 pub mod Utf8
 pub mod Grammar
 pub mod Leads
+pub mod Runs

@@ -2,9 +2,15 @@
 // the answer is yes, 0 where it is no, and what was tried.
 use libc::STDOUT_FILENO;
 use utf8::is_utf8;
+use utf8::stops_of;
+ghost use Prim.Native.Nat.{_≤_};
+ghost use lib.ListN.{length};
 
-fn part(label: &[u8], bytes: &[u8], from: usize, to: usize) {
-    if is_utf8(bytes, from, to) {
+fn part(label: &[u8], bytes: &[u8], from: usize, to: usize)
+    requires { ⌜ length (now bytes) ≤ 65535 ⌝ }
+{
+    let stops = stops_of(bytes);
+    if is_utf8(bytes, &stops, from, to) {
         io::write_all(STDOUT_FILENO, b"1 ");
     } else {
         io::write_all(STDOUT_FILENO, b"0 ");
@@ -13,7 +19,9 @@ fn part(label: &[u8], bytes: &[u8], from: usize, to: usize) {
     io::write_all(STDOUT_FILENO, b"\n");
 }
 
-fn whole(label: &[u8], bytes: &[u8]) {
+fn whole(label: &[u8], bytes: &[u8])
+    requires { ⌜ length (now bytes) ≤ 65535 ⌝ }
+{
     part(label, bytes, 0, bytes.len());
 }
 
@@ -87,9 +95,29 @@ fn parts() {
     );
 }
 
+// Parts of 200 bytes: a character of four bytes over the end of the first block of 64, and a tail alone where the third one starts.
+fn blocks() {
+    let mut bytes = [b'a'; 200];
+    bytes[62] = 0xF0;
+    bytes[63] = 0x9F;
+    bytes[64] = 0x98;
+    bytes[65] = 0x80;
+    bytes[128] = 0x80;
+    part(b"over a block's end", &bytes, 0, 128);
+    part(b"cut at a block's end", &bytes, 0, 64);
+    part(b"cut past a block's end", &bytes, 0, 65);
+    part(b"up to past a block's end", &bytes, 0, 66);
+    part(b"from a block's start, in a character", &bytes, 64, 128);
+    part(b"from past a block's start", &bytes, 66, 128);
+    part(b"with a block's first byte, a tail alone", &bytes, 66, 129);
+    part(b"from a tail alone", &bytes, 128, 129);
+    part(b"past a tail alone", &bytes, 129, 200);
+}
+
 fn main() {
     one_and_two();
     three();
     four();
     parts();
+    blocks();
 }

@@ -14,10 +14,10 @@ use Rattle.image.proofs.records.bad_record.Statement.{statement}
 use Rattle.image.proofs.records.bad_record.Tie as tie
 
 abbrev Inv-loop : tie.InvT-loop
-Inv-loop image h records r₀ r = (r ≤ records) × (records ≡ recordsIn h) × (firstFrom (recordBad image h) 0 records ≡ firstFrom (recordBad image h) r (records - r))
+Inv-loop image h records stops r₀ r = (r ≤ records) × (records ≡ recordsIn h) × (firstFrom (recordBad image h) 0 records ≡ firstFrom (recordBad image h) r (records - r))
 
 abbrev μ-loop : tie.MeasureT-loop
-μ-loop image h records r₀ r = records - r
+μ-loop image h records stops r₀ r = records - r
 
 cast-records : tie.Need-cast-records Inv-loop μ-loop
 cast-records c = search needs
@@ -34,10 +34,14 @@ cast-records-3 c = search needs
 add-records-2 : tie.Need-add-records-2 Inv-loop μ-loop
 add-records-2 c = search needs
 
+text-stops-requires : tie.Need-text-stops-requires Inv-loop μ-loop
+text-stops-requires c κs = search needs
+
 loop-holds : tie.Need-loop-holds Inv-loop μ-loop
 loop-holds c =
-    let test = recordBad (now (c .before .before .before .before .args .image)) (c .before .before .before .before .args .h) in
-    (omega arith, refl, start test 0 (recordsIn (c .before .before .before .before .args .h)) ∙ ap (λ (n : ℕ). firstFrom test 0 (n - 0)) (zero-add (recordsIn (c .before .before .before .before .args .h))))
+    let a = c .before .before .before .before .before .args in
+    let test = recordBad (now (a .image)) (a .h) in
+    (omega arith, refl, start test 0 (recordsIn (a .h)) ∙ ap (λ (n : ℕ). firstFrom test 0 (n - 0)) (zero-add (recordsIn (a .h))))
 
 record-good-requires : tie.Need-record-good-requires Inv-loop μ-loop
 record-good-requires c κs = search needs
@@ -48,10 +52,11 @@ record-offset-requires c κs = search needs
 returns : tie.Need-returns Inv-loop μ-loop
 unfolding badRecord
 returns c =
-    let l = c .before .before .before .before .loop in
-    let h = c .before .before .before .before .before .before .before .before .before .args .h in
-    let test = recordBad (now (c .before .before .before .before .before .before .before .before .before .args .image)) h in
-    let whole = ap (firstFrom test 0) (sym (l .inv .1)) ∙ l .inv .2 ∙ here test (l .r) _ (c .before .before .before .loop-test .taken) (ap not (sym (c .before .before .record-good .ensures)) ∙ c .before .if1 .taken) in
+    let l = c .before .before .before .before .before in
+    let a = l .before .before .before .before .before .before .args in
+    let test = recordBad (now (a .image)) (a .h) in
+    let bad = ap not (sym (c .before .before .record-good .ensures)) ∙ c .before .if1 .taken in
+    let whole = ap (firstFrom test 0) (sym (l .loop .inv .1)) ∙ l .loop .inv .2 ∙ here test (l .loop .r) _ (c .before .before .before .before .loop-test .taken) bad in
     rw (whole, sym (c .record-offset .ensures))
 
 add-r : tie.Need-add-r Inv-loop μ-loop
@@ -62,17 +67,19 @@ loop-less c = omega arith
 
 loop-again : tie.Need-loop-again Inv-loop μ-loop
 loop-again c =
-    let l = c .before .before .before .loop in
-    let test = recordBad (now (c .before .before .before .before .before .before .before .before .args .image)) (c .before .before .before .before .before .before .before .before .args .h) in
-    (omega arith, l .inv .1, l .inv .2 ∙ on test (l .r) _ (c .before .before .loop-test .taken) (ap not (sym (c .before .record-good .ensures)) ∙ c .if1 .left))
+    let l = c .before .before .before .before in
+    let a = l .before .before .before .before .before .before .args in
+    let good = ap not (sym (c .before .record-good .ensures)) ∙ c .if1 .left in
+    (omega arith, l .loop .inv .1, l .loop .inv .2 ∙ on (recordBad (now (a .image)) (a .h)) (l .loop .r) _ (c .before .before .before .loop-test .taken) good)
 
 returns-2 : tie.Need-returns-2 Inv-loop μ-loop
 unfolding badRecord
 returns-2 c =
     let l = c .before .loop in
-    let test = recordBad (now (c .before .before .before .before .before .before .args .image)) (c .before .before .before .before .before .before .args .h) in
-    let end : recordsIn (c .before .before .before .before .before .before .args .h) ≡ l .r = omega arith in
-    let stop : firstFrom test 0 (recordsIn (c .before .before .before .before .before .before .args .h)) ≡ Nowhere =
+    let a = c .before .before .before .before .before .before .before .args in
+    let test = recordBad (now (a .image)) (a .h) in
+    let end : recordsIn (a .h) ≡ l .r = omega arith in
+    let stop : firstFrom test 0 (recordsIn (a .h)) ≡ Nowhere =
     ap (firstFrom test 0) (sym (l .inv .1)) ∙ l .inv .2 ∙ ap (λ (n : ℕ). firstFrom test (l .r) (n - l .r)) (l .inv .1 ∙ end) ∙ done test (l .r) in
     rw stop
 
@@ -87,6 +94,7 @@ bad-record-spec =
     add-records
     cast-records-3
     add-records-2
+    text-stops-requires
     loop-holds
     record-good-requires
     record-offset-requires

@@ -1,7 +1,7 @@
 -- `image::records::is_scalar` meets its contract: the places of a number against the two ranges. Assumes nothing.
 use native.Mathlib.Omega.{arith}
 use borrow.Author.Tests.{le-leb, lt-leb}
-use Rattle.packed.proofs.Ranges.{inside, under, over}
+use Rattle.kinds.proofs.Ranges.{inside, under, over}
 use Rattle.image.proofs.records.is_scalar.Statement.{statement}
 use Rattle.image.proofs.records.is_scalar.Tie as tie
 

@@ -3,7 +3,7 @@ use mathlib.Core.Path.{sym, _∙_}
 use native.Mathlib.Nat.{le-of-suc-le-suc}
 use borrow.Author.Tests.{ne-eqb}
 use Rattle.image.specs.Records.{payloadGood}
-use Rattle.packed.proofs.Ranges.{inside, over, past}
+use Rattle.kinds.proofs.Ranges.{inside, over, past}
 use borrow.Author.Tests.{ne-eqb}
 use borrow.Author.Needs.{needs, zero≤}
 use Rattle.image.proofs.records.payload_good.Statement.{statement}
@@ -19,7 +19,9 @@ part-good-requires : tie.Need-part-good-requires
 part-good-requires c κs = search needs
 
 part-is-utf8-requires : tie.Need-part-is-utf8-requires
-part-is-utf8-requires c κs = search needs
+part-is-utf8-requires c κs =
+    let good = sym (c .before .part-good .ensures) ∙ c .if1 .taken in
+    search needs
 
 part-at-requires-2 : tie.Need-part-at-requires-2
 part-at-requires-2 c κs = search needs

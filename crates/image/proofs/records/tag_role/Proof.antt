@@ -1,8 +1,8 @@
 -- `image::records::tag_role` meets its contract. Assumes nothing.
 use mathlib.Core.Path.{ap}
 use borrow.Author.Tests.{eq-eqb, ne-eqb}
-use Rattle.packed.specs.declared.kinds.KindRow.{KindRow}
-use Rattle.packed.specs.Kinds.{tagRole}
+use Rattle.kinds.specs.declared.KindRow.{KindRow}
+use Rattle.kinds.specs.Kinds.{tagRole}
 use borrow.Author.Needs.{needs}
 use Rattle.image.proofs.records.tag_role.Statement.{statement}
 use Rattle.image.proofs.records.tag_role.Tie as tie

@@ -8,12 +8,12 @@ use types.Run.{OneOf, miss}
 use denote.Enum.Declared.{tagOf}
 use denote.Ref.{now}
 use borrow.Author.Tests.{lt-ltb, le-ltb, ne-eqb}
-use Rattle.packed.proofs.kinds.Role.{the-type}
+use Rattle.kinds.proofs.Role.{the-type}
 use Rattle.packed.specs.declared.layout.Header.{Header}
 use Rattle.packed.specs.declared.layout.Node.{Node}
-use Rattle.packed.specs.declared.kinds.Role.{Role}
-use Rattle.packed.specs.declared.kinds.Role.the-variants.{Unlisted, Number, Literal, Text, Function, Node as NodeRole}
-use Rattle.packed.specs.Kinds.{isOf}
+use Rattle.kinds.specs.declared.Role.{Role}
+use Rattle.kinds.specs.declared.Role.the-variants.{Unlisted, Number, Literal, Text, Function, Node as NodeRole}
+use Rattle.kinds.specs.Kinds.{isOf}
 use Rattle.image.specs.Tree.{goes}
 use borrow.Author.Needs.{needs}
 use Rattle.image.proofs.tree.goes.Statement.{statement}

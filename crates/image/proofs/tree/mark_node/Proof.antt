@@ -2,8 +2,8 @@
 use mathlib.Core.Path.{_≡_, ap, ap₂, _∙_}
 use Prim.Native.Nat.{ℕ}
 use denote.Ref.{now}
-use Rattle.packed.specs.declared.kinds.KindRow.{KindRow}
-use Rattle.packed.specs.Kinds.{rowOf}
+use Rattle.kinds.specs.declared.KindRow.{KindRow}
+use Rattle.kinds.specs.Kinds.{rowOf}
 use Rattle.image.specs.Tree.{heading, marked}
 use borrow.Author.Needs.{needs}
 use Rattle.image.proofs.tree.mark_node.Statement.{statement}

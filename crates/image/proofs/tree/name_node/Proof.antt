@@ -1,8 +1,8 @@
 -- `image::tree::name_node` meets its contract: three counts grow, one after the other (`added-then`). Assumes nothing.
 use mathlib.Core.Path.{_≡_, ap, sym, _∙_}
 use native.Mathlib.Omega.{arith}
-use Rattle.packed.specs.declared.kinds.KindRow.{KindRow}
-use Rattle.packed.specs.Kinds.{rowOf}
+use Rattle.kinds.specs.declared.KindRow.{KindRow}
+use Rattle.kinds.specs.Kinds.{rowOf}
 use Rattle.image.specs.Tree.{named, namesOf}
 use Rattle.image.proofs.Counting.{added-then}
 use Rattle.image.proofs.Roles.{named-le}

@@ -1,6 +1,6 @@
 -- `image::tree::named` meets its contract. Assumes nothing.
 use mathlib.Core.Path.{refl}
-use Rattle.packed.specs.declared.kinds.Role.{Role}
+use Rattle.kinds.specs.declared.Role.{Role}
 use Rattle.image.specs.Tree.{named}
 use Rattle.image.proofs.Roles.{no-node}
 use borrow.Author.Needs.{needs}

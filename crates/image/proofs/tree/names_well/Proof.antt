@@ -4,7 +4,7 @@ use Prim.Native.Nat.{_≤_}
 use native.Mathlib.Nat.{le-trans}
 use denote.Ref.{now}
 use borrow.Author.Tests.{not-true, not-false}
-use Rattle.packed.specs.declared.kinds.KindRow.{KindRow}
+use Rattle.kinds.specs.declared.KindRow.{KindRow}
 use Rattle.image.specs.Tree.{named, namesWell}
 use Rattle.image.proofs.Roles.{named-le}
 use Rattle.image.proofs.Good.{good-node, fits-named}

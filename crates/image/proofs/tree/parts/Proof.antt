@@ -13,7 +13,7 @@ use Rattle.fields.proofs.Tests.{and-both}
 use Rattle.packed.specs.declared.layout.Header.{Header}
 use Rattle.packed.specs.declared.layout.Node.{Node}
 use Rattle.packed.specs.Layout.{nodeAt}
-use Rattle.packed.specs.Kinds.{isWithin, rowOf, table}
+use Rattle.kinds.specs.Kinds.{isWithin, rowOf, table}
 use Rattle.image.specs.Records.{nodeGood}
 use Rattle.image.specs.Tree.{named, parts}
 use Rattle.image.proofs.Good.{good-node, fits-named}
