@@ -1,0 +1,4 @@
+pub mod NodeRanges
+pub mod Falling
+pub mod MemberLaws
+pub mod ChainLoop
