@@ -14,7 +14,7 @@ use lib.Seq.{drop-cons}
 use Rattle.packed.specs.declared.layout.Header.{Header}
 use Rattle.rules.specs.Store.{Cell, head, item, entry, entryAt, partText, sameText}
 use Rattle.stores.specs.declared.Found.the-variants.{At, Nothing}
-use Rattle.stores.specs.Scopes.{foundOf}
+use Rattle.stores.specs.Finding.{foundOf}
 use Rattle.stores.specs.Stores.{cellsOf, storeOf}
 use Rattle.boxes.specs.Cells.{EntryAt, matches, isEntry}
 use Rattle.boxes.proofs.CellLaws.{what, keyAt, cell-head, cell-item, cell-entry, length-cells, cell-get}

@@ -1,4 +1,4 @@
--- Vec, tuple and object in cells: what the functions of cells.rt give and leave, by the definitions of the rules.
+-- Vec, tuple and object in cells: what their functions give and leave, by the definitions of the rules.
 use Prim.Native.Nat.{ℕ, _+_, _≤_}
 use mathlib.Core.Path.{_≡_}
 use mathlib.Core.Bool.{Bool, false, _&&_}
@@ -11,7 +11,7 @@ use Rattle.rules.specs.declared.Value.{Value}
 use Rattle.rules.specs.Store.{Cell, head, item, entry, Store, dropped, countIn, itemAt, cellAt, entryAt, partText, sameText, takenCells}
 use Rattle.rules.specs.Building.{itemCells}
 use Rattle.stores.specs.declared.Found.{Found}
-use Rattle.stores.specs.Scopes.{foundOf}
+use Rattle.stores.specs.Finding.{foundOf}
 use Rattle.stores.specs.View.{recAt}
 use Rattle.stores.specs.Stores.{storeOf, cellIn, bindingsIn, pendingsIn, cellsIn}
 

@@ -19,7 +19,7 @@ use Rattle.rules.specs.Machine.{onward, wholeChain}
 use Rattle.stores.specs.View.{recAt}
 use Rattle.stores.proofs.PendingLaws.{pendings-none}
 use Rattle.stores.specs.Stores.{pendingIn, bindingsIn, pendingsIn, cellsIn}
-use Rattle.boxes.specs.Entries.{entriesOf, EntryPut}
+use Rattle.entries.specs.Entries.{entriesOf, EntryPut}
 use Rattle.building.specs.Making.{IsKind, entriesIn, EntriesPut}
 use Rattle.stores.proofs.Views.{length-view, view-get}
 use Rattle.building.proofs.ChainLaws.{whole-none, whole-more, along-onward, entry-there}

@@ -18,7 +18,7 @@ use Rattle.rules.specs.Building.{gives, refuses, boxed, entries, entryCells}
 use Rattle.rules.specs.Machine.{wholeChain}
 use Rattle.stores.specs.Stores.{boundOf, pendingOf, cellsOf, cellIn, bindingsIn, pendingsIn, cellsIn, storeOf, Fits, BecameRun, MakesWords}
 use Rattle.boxes.specs.Cells.{headWords}
-use Rattle.boxes.specs.Entries.{entriesOf}
+use Rattle.entries.specs.Entries.{entriesOf}
 use Rattle.building.specs.Making.{objectMade, entriesIn, EntriesPut}
 use Rattle.stores.proofs.Views.{view-push, view-apart, view-take}
 use Rattle.stores.proofs.Regions.{bindings-apart, pendings-apart, fits-words}

@@ -21,7 +21,7 @@ use Rattle.rules.specs.Store.{Store, empty, withText, dropped, takenCells, asFl
 use Rattle.rules.specs.Building.{Made, builtText, boxed, itemCells, entries, entryCells, printed, unprinted, orNothing, templateText}
 use Rattle.rules.specs.Machine.{wholeChain}
 use Rattle.stores.specs.Stores.{bindingsIn, pendingsIn, cellsIn}
-use Rattle.boxes.specs.Entries.{entriesOf}
+use Rattle.entries.specs.Entries.{entriesOf}
 use Rattle.building.specs.declared.Judged.{Judged}
 use Rattle.building.specs.declared.Judged.the-variants.{Prints, Refused}
 

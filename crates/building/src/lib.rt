@@ -1,7 +1,7 @@
 // What vec, tuple, object and template make of their items, as interpreter.rs has it: the items are pending from `from` on.
-use boxes::cells::put_head;
-use boxes::cells::take_items;
-use boxes::entries::put_entry;
+use boxes::put_head;
+use boxes::take_items;
+use entries::put_entry;
 use numbers::decimal::Put;
 use numbers::decimal::put_decimal;
 use packed::layout::Header;

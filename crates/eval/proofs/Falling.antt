@@ -15,7 +15,7 @@ use Rattle.rules.specs.Machine.{Ctl, enter, enterBody, again, work, instruction
 use Rattle.rules.specs.Runs.{iter, costs}
 use Rattle.rules.specs.Go.{Go}
 use Rattle.rules.proofs.Moves.{Enters, expression, body, entering-takes}
-use Rattle.frames.specs.Post.{Came}
+use Rattle.outcomes.specs.Post.{Came}
 
 pub not-more : {image : List ℕ} {h : Header} {l m : ℕ} {c d : Cfg} → Go image h l c m d → m ≤ l
 not-more g = omega (arith, g .left)

@@ -24,26 +24,27 @@ use Rattle.rules.proofs.Moves.{Enters, body, Gathers as KindGathers, components
 use Rattle.rules.proofs.ItemMoves.{text-skipped, item-entered, entry-entered}
 use Rattle.stores.specs.Stores.{storeOf, takesOf, scopeOf, floorOf, pendingOf, Fits, Became, BecameRun}
 use Rattle.stores.proofs.PendingLaws.{length-pending}
-use Rattle.frames.specs.declared.Outcome.{Outcome}
-use Rattle.frames.specs.declared.Outcome.the-variants.{Done, Broke, Refused, Spent}
-use Rattle.frames.specs.declared.Progress.{Progress}
-use Rattle.frames.specs.declared.Progress.the-variants.{On, Out}
+use Rattle.outcomes.specs.declared.Outcome.{Outcome}
+use Rattle.outcomes.specs.declared.Outcome.the-variants.{Done, Broke, Refused, Spent}
+use Rattle.outcomes.specs.declared.Progress.{Progress}
+use Rattle.outcomes.specs.declared.Progress.the-variants.{On, Out}
 use Rattle.frames.specs.declared.Told.{Told}
 use Rattle.frames.specs.declared.Told.the-variants.{Holds, Fails, Out as ToldOut}
-use Rattle.frames.specs.Post.{Ready, Came, Ways, WaysOn, Post, Advance, After, AfterOn, AfterText, AfterWords, EveryAfterRun, Falls}
+use Rattle.outcomes.specs.Post.{Ready, Came, Ways, WaysOn, Post, Advance, After, AfterOn, AfterText, AfterWords, EveryAfterRun, Falls}
 use Rattle.image.specs.declared.Loaded.the-variants.{Image}
 use Rattle.image.specs.Load.{loadOf}
 use types.Run.{OneOf, miss}
 use denote.Enum.Declared.{tagOf}
-use Rattle.frames.proofs.Progress.{the-type as progress-type}
-use Rattle.frames.specs.Entering.{Entered, BodyEntered}
-use Rattle.frames.specs.Outcomes.{IsBreak}
+use Rattle.outcomes.proofs.Progress.{the-type as progress-type}
+use Rattle.entering.specs.Entering.{Entered, BodyEntered}
+use Rattle.outcomes.specs.Outcomes.{IsBreak}
 use Rattle.frames.specs.Loops.{toldBy, toldOf, PassOver}
-use Rattle.frames.specs.Items.{ItemOver}
+use Rattle.items.specs.Items.{ItemOver}
 use Rattle.frames.specs.Calls.{CallEntered}
 use Rattle.eval.proofs.Falling.{Past, works, gives, breaks as broke, not-more, came-less, entering-falls}
-use Rattle.frames.proofs.Ways.{NoValue, allPass, post-then, advance-then, post-past, valued, out-of, of-out, post-after, advance-after, ended, refused}
-use Rattle.frames.specs.Waiting.{Single, declares, sets, assigns, breaks, waiting, operandOf, Gathers, built, called, templates, vecs, tuples, objects}
+use Rattle.outcomes.proofs.Ways.{NoValue, allPass, post-then, advance-then, post-past, valued, out-of, of-out, post-after, advance-after, ended, refused}
+use Rattle.operands.specs.Waiting.{Single, declares, sets, assigns, breaks, waiting, operandOf}
+use Rattle.items.specs.Gathering.{Gathers, built, called, templates, vecs, tuples, objects}
 
 -- on to a control with frames of its own; it goes on there
 abbrev pub Reached : List ℕ → Header → Ctl → List Frame → List ℕ → List ℕ → List ℕ → Ctl → List Frame → List ℕ → List ℕ → List ℕ → Type 0

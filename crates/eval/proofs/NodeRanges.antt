@@ -18,7 +18,7 @@ use Rattle.packed.specs.Layout.{nodeAt, functionAt, sizeOf}
 use Rattle.kinds.specs.Kinds.{rowOf, table, tagRole, isOf}
 use Rattle.image.specs.declared.Loaded.the-variants.{Image}
 use Rattle.image.specs.Load.{loadOf}
-use Rattle.image.specs.Records.{fits, isNode, functionGood}
+use Rattle.records.specs.Records.{fits, isNode, functionGood}
 use Rattle.image.proofs.Loads.{node-loaded, function-loaded}
 use Rattle.image.proofs.Chains.{Along, begins, along-class}
 use Rattle.rules.specs.Store.{mostText}
@@ -26,9 +26,10 @@ use Rattle.rules.specs.Machine.{kindOf, kinds, itemNode}
 use Rattle.stores.specs.Stores.{Fits}
 use Rattle.building.specs.Making.{IsKind}
 use Rattle.building.proofs.ChainLaws.{size-right}
-use Rattle.frames.specs.Post.{Ready}
-use Rattle.frames.specs.Outcomes.{IsNode}
-use Rattle.frames.specs.Waiting.{Single, declares, sets, assigns, breaks, operandOf, Gathers, built, called, templates, vecs, tuples, objects, IsItem}
+use Rattle.outcomes.specs.Post.{Ready}
+use Rattle.outcomes.specs.Outcomes.{IsNode}
+use Rattle.operands.specs.Waiting.{Single, declares, sets, assigns, breaks, operandOf}
+use Rattle.items.specs.Gathering.{Gathers, built, called, templates, vecs, tuples, objects, IsItem}
 
 -- a field that names a node: it is one, if it must be or is not 0
 named-there : (image : List ℕ) (h : Header) (needed heads : Bool) (class : Class) (x : ℕ) → fits image h (NodeRole needed heads class) x ≡ true

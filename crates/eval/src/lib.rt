@@ -1,26 +1,29 @@
 // eval.rs: the evaluators, which call one another. Each goes as the machine of the rules goes from its own control; only those that call back stand here.
+use binary::finish_binary;
+use bindings::close;
+use bindings::empty;
+use bindings::open;
 use building::onward;
-use frames::Outcome;
-use frames::Progress;
+use entering::enter_body;
+use entering::enter_expr;
 use frames::Told;
-use frames::binary::finish_binary;
 use frames::calls::enter_call;
 use frames::calls::function_of;
 use frames::calls::leave_call;
-use frames::enter::enter_body;
-use frames::enter::enter_expr;
-use frames::items::build;
-use frames::items::finish_item;
-use frames::items::item_node;
-use frames::leaves::eval_name;
-use frames::leaves::eval_read;
-use frames::leaves::eval_value;
 use frames::loops::after_pass;
 use frames::loops::told;
-use frames::operands::finish_let;
-use frames::operands::finish_operand;
-use frames::operands::operand_of;
 use frames::scopes::leave_scope;
+use items::build;
+use items::finish_item;
+use items::item_node;
+use leaves::eval_name;
+use leaves::eval_read;
+use leaves::eval_value;
+use operands::finish_let;
+use operands::finish_operand;
+use operands::operand_of;
+use outcomes::Outcome;
+use outcomes::Progress;
 use packed::layout::Header;
 use packed::layout::node_at;
 use rules::Refusal;
@@ -28,20 +31,18 @@ use rules::Value;
 use stores::run::FLOOR;
 use stores::run::PENDING;
 use stores::run::SCOPE;
-use stores::scopes::close;
-use stores::scopes::empty;
-use stores::scopes::open;
 ghost use mathlib.Core.Path.{_≡_};
 ghost use mathlib.Core.List.{[], _∷_};
 ghost use Prim.Native.Nat.{_+_, _≤_};
 ghost use Rattle.packed.specs.Layout.{nodeAt};
 ghost use Rattle.rules.specs.Machine.{Ctl, Frame, kindOf, onward as onwardFrom};
 ghost use Rattle.stores.specs.Stores.{scopeOf, takesOf};
-ghost use Rattle.frames.specs.Post.{Ready, Post, Advance, Falls};
-ghost use Rattle.frames.specs.Waiting.{Single, Builds, Gathers, operandOf, IsItem};
+ghost use Rattle.outcomes.specs.Post.{Ready, Post, Advance, Falls};
+ghost use Rattle.operands.specs.Waiting.{Single, operandOf};
+ghost use Rattle.items.specs.Gathering.{Builds, Gathers, IsItem};
 
 // An expression or a function's body.
-pub fn eval_expr(
+pub fn ir_expr(
     image: &[u8],
     h: Header,
     words: &mut [u64],
@@ -55,13 +56,13 @@ pub fn eval_expr(
 {
     let entered = enter_expr(image, h, run, n, depth);
     match entered {
-        Progress::On => eval_work(image, h, words, bytes, run, n, depth),
+        Progress::On => ir_work(image, h, words, bytes, run, n, depth),
         Progress::Out(r) => r,
     }
 }
 
 // A scope that is an arm's, a default or a loop's body.
-fn eval_body(
+fn ir_body(
     image: &[u8],
     h: Header,
     words: &mut [u64],
@@ -75,13 +76,13 @@ fn eval_body(
 {
     let entered = enter_body(run, n, depth);
     match entered {
-        Progress::On => eval_work(image, h, words, bytes, run, n, depth),
+        Progress::On => ir_work(image, h, words, bytes, run, n, depth),
         Progress::Out(r) => r,
     }
 }
 
 // A node after its takes, by its kind.
-fn eval_work(
+fn ir_work(
     image: &[u8],
     h: Header,
     words: &mut [u64],
@@ -96,33 +97,33 @@ fn eval_work(
     let node = node_at(image, h, n as usize);
     let kind = node.kind;
     match kind {
-        1 => eval_scope(image, h, words, bytes, run, n, depth),
-        2 => eval_binary(image, h, words, bytes, run, n, depth),
-        3 => eval_operand(image, h, words, bytes, run, n, depth),
-        4 => eval_operand(image, h, words, bytes, run, n, depth),
-        5 => eval_operand(image, h, words, bytes, run, n, depth),
-        6 => eval_build(image, h, words, bytes, run, n, depth),
+        1 => ir_scope(image, h, words, bytes, run, n, depth),
+        2 => ir_binary(image, h, words, bytes, run, n, depth),
+        3 => ir_operand(image, h, words, bytes, run, n, depth),
+        4 => ir_operand(image, h, words, bytes, run, n, depth),
+        5 => ir_operand(image, h, words, bytes, run, n, depth),
+        6 => ir_build(image, h, words, bytes, run, n, depth),
         7 => eval_name(image, h, words, run, n, depth),
         8 => eval_read(image, h, words, run, n, depth),
         9 => eval_value(image, h, words, run, n, depth),
-        10 => eval_branches(image, h, words, bytes, run, n, depth),
-        11 => eval_loop(image, h, words, bytes, run, n, depth),
+        10 => ir_branches(image, h, words, bytes, run, n, depth),
+        11 => ir_loop(image, h, words, bytes, run, n, depth),
         12 => {
             if node.a == 0 {
                 return Outcome::Broke(n, Value::Unit);
             }
-            eval_operand(image, h, words, bytes, run, n, depth)
+            ir_operand(image, h, words, bytes, run, n, depth)
         }
-        13 => eval_build(image, h, words, bytes, run, n, depth),
-        14 => eval_build(image, h, words, bytes, run, n, depth),
-        15 => eval_build(image, h, words, bytes, run, n, depth),
-        16 => eval_call(image, h, words, bytes, run, n, depth),
+        13 => ir_build(image, h, words, bytes, run, n, depth),
+        14 => ir_build(image, h, words, bytes, run, n, depth),
+        15 => ir_build(image, h, words, bytes, run, n, depth),
+        16 => ir_call(image, h, words, bytes, run, n, depth),
         _ => Outcome::Refused(Refusal::NotConst, n),
     }
 }
 
 // Its instructions one after the other, then its last expression.
-fn eval_scope(
+fn ir_scope(
     image: &[u8],
     h: Header,
     words: &mut [u64],
@@ -139,17 +140,17 @@ fn eval_scope(
     open(run);
     let mut i = node.a;
     while i != 0 {
-        let one = eval_expr(image, h, words, bytes, run, i, depth + 1);
+        let one = ir_expr(image, h, words, bytes, run, i, depth + 1);
         let Outcome::Done(_) = one else {
             return one;
         };
         i = onward(node_at(image, h, i as usize), i);
     }
-    eval_last(image, h, words, bytes, run, n, depth, scope)
+    ir_last(image, h, words, bytes, run, n, depth, scope)
 }
 
 // The last expression of a scope, or unit; the scope before it begins at `scope`.
-fn eval_last(
+fn ir_last(
     image: &[u8],
     h: Header,
     words: &mut [u64],
@@ -167,11 +168,11 @@ fn eval_last(
         close(run, scope);
         return Outcome::Done(Value::Unit);
     }
-    let one = eval_expr(image, h, words, bytes, run, node.b, depth + 1);
+    let one = ir_expr(image, h, words, bytes, run, node.b, depth + 1);
     leave_scope(run, scope, one)
 }
 
-fn eval_binary(
+fn ir_binary(
     image: &[u8],
     h: Header,
     words: &mut [u64],
@@ -184,16 +185,16 @@ fn eval_binary(
     ensures { λ r. ⌜ Post (now (image .entry)) h (Ctl.work n depth) [] (now (run .entry)) (now (words .entry)) (now (bytes .entry)) (now (run .exit)) (now (words .exit)) (now (bytes .exit)) r ⌝ }
 {
     let node = node_at(image, h, n as usize);
-    let first = eval_expr(image, h, words, bytes, run, node.a, depth + 1);
+    let first = ir_expr(image, h, words, bytes, run, node.a, depth + 1);
     let Outcome::Done(left) = first else {
         return first;
     };
-    let second = eval_expr(image, h, words, bytes, run, node.b, depth + 1);
+    let second = ir_expr(image, h, words, bytes, run, node.b, depth + 1);
     finish_binary(image, h, bytes, run, n, left, second)
 }
 
 // A decl, set, assign or break, whose one operand is evaluated first.
-fn eval_operand(
+fn ir_operand(
     image: &[u8],
     h: Header,
     words: &mut [u64],
@@ -206,12 +207,12 @@ fn eval_operand(
     ensures { λ r. ⌜ Post (now (image .entry)) h (Ctl.work n depth) [] (now (run .entry)) (now (words .entry)) (now (bytes .entry)) (now (run .exit)) (now (words .exit)) (now (bytes .exit)) r ⌝ }
 {
     let operand = operand_of(node_at(image, h, n as usize));
-    let one = eval_expr(image, h, words, bytes, run, operand, depth + 1);
+    let one = ir_expr(image, h, words, bytes, run, operand, depth + 1);
     finish_operand(image, h, words, run, n, one)
 }
 
 // The items of a vec, tuple, object, call or template; those before its own are the first `from` that are pending.
-fn eval_items(
+fn ir_items(
     image: &[u8],
     h: Header,
     words: &mut [u64],
@@ -226,7 +227,7 @@ fn eval_items(
 {
     let mut i = node_at(image, h, n as usize).a;
     while i != 0 {
-        let one = eval_item(image, h, words, bytes, run, n, i, depth, from);
+        let one = ir_item(image, h, words, bytes, run, n, i, depth, from);
         let Progress::On = one else {
             return one;
         };
@@ -236,7 +237,7 @@ fn eval_items(
 }
 
 // One item; a text part of a template is none.
-fn eval_item(
+fn ir_item(
     image: &[u8],
     h: Header,
     words: &mut [u64],
@@ -255,12 +256,12 @@ fn eval_item(
         return Progress::On;
     }
     let inner = item_node(image, h, n, i);
-    let one = eval_expr(image, h, words, bytes, run, inner, depth + 1);
+    let one = ir_expr(image, h, words, bytes, run, inner, depth + 1);
     finish_item(image, h, words, run, n, i, from, one)
 }
 
 // A vec, tuple, object or template.
-fn eval_build(
+fn ir_build(
     image: &[u8],
     h: Header,
     words: &mut [u64],
@@ -273,14 +274,14 @@ fn eval_build(
     ensures { λ r. ⌜ Post (now (image .entry)) h (Ctl.work n depth) [] (now (run .entry)) (now (words .entry)) (now (bytes .entry)) (now (run .exit)) (now (words .exit)) (now (bytes .exit)) r ⌝ }
 {
     let from = run[PENDING];
-    let all = eval_items(image, h, words, bytes, run, n, depth, from);
+    let all = ir_items(image, h, words, bytes, run, n, depth, from);
     match all {
         Progress::On => build(image, h, words, bytes, run, n, from),
         Progress::Out(r) => r,
     }
 }
 
-fn eval_call(
+fn ir_call(
     image: &[u8],
     h: Header,
     words: &mut [u64],
@@ -293,15 +294,15 @@ fn eval_call(
     ensures { λ r. ⌜ Post (now (image .entry)) h (Ctl.work n depth) [] (now (run .entry)) (now (words .entry)) (now (bytes .entry)) (now (run .exit)) (now (words .exit)) (now (bytes .exit)) r ⌝ }
 {
     let from = run[PENDING];
-    let all = eval_items(image, h, words, bytes, run, n, depth, from);
+    let all = ir_items(image, h, words, bytes, run, n, depth, from);
     match all {
-        Progress::On => eval_called(image, h, words, bytes, run, n, depth, from),
+        Progress::On => ir_called(image, h, words, bytes, run, n, depth, from),
         Progress::Out(r) => r,
     }
 }
 
 // The body of the function that node n calls, once its arguments are there.
-fn eval_called(
+fn ir_called(
     image: &[u8],
     h: Header,
     words: &mut [u64],
@@ -321,12 +322,12 @@ fn eval_called(
         return r;
     }
     let function = function_of(image, h, n);
-    let one = eval_expr(image, h, words, bytes, run, function.body, depth + 1);
+    let one = ir_expr(image, h, words, bytes, run, function.body, depth + 1);
     leave_call(run, scope, floor, from, one)
 }
 
 // A condition of an expression at that depth.
-fn eval_condition(
+fn ir_condition(
     image: &[u8],
     h: Header,
     words: &mut [u64],
@@ -340,14 +341,14 @@ fn eval_condition(
 {
     let node = node_at(image, h, c as usize);
     if node.kind != 20 {
-        return eval_expr(image, h, words, bytes, run, c, depth + 1);
+        return ir_expr(image, h, words, bytes, run, c, depth + 1);
     }
-    let one = eval_expr(image, h, words, bytes, run, node.a, depth + 1);
+    let one = ir_expr(image, h, words, bytes, run, node.a, depth + 1);
     finish_let(image, h, words, run, c, one)
 }
 
 // Arm i of node n, in a scope of its own: out with its body's value where its condition holds, else on to the next.
-fn eval_arm(
+fn ir_arm(
     image: &[u8],
     h: Header,
     words: &mut [u64],
@@ -363,9 +364,9 @@ fn eval_arm(
     let arm = node_at(image, h, i as usize);
     let scope = run[SCOPE];
     open(run);
-    let one = eval_condition(image, h, words, bytes, run, arm.a, depth);
+    let one = ir_condition(image, h, words, bytes, run, arm.a, depth);
     match told(arm.a, one) {
-        Told::Holds => Progress::Out(eval_taken(
+        Told::Holds => Progress::Out(ir_taken(
             image,
             h,
             words,
@@ -384,7 +385,7 @@ fn eval_arm(
 }
 
 // The body of an arm that is taken; the scope before the arm's begins at `scope`.
-fn eval_taken(
+fn ir_taken(
     image: &[u8],
     h: Header,
     words: &mut [u64],
@@ -397,11 +398,11 @@ fn eval_taken(
     requires { ⌜ Ready (now image) h n (now run) (now words) (now bytes) ⌝ }
     ensures { λ r. ⌜ Post (now (image .entry)) h (Ctl.enterBody n depth) (Frame.endOf scope ∷ []) (now (run .entry)) (now (words .entry)) (now (bytes .entry)) (now (run .exit)) (now (words .exit)) (now (bytes .exit)) r ⌝ }
 {
-    let one = eval_body(image, h, words, bytes, run, n, depth);
+    let one = ir_body(image, h, words, bytes, run, n, depth);
     leave_scope(run, scope, one)
 }
 
-fn eval_branches(
+fn ir_branches(
     image: &[u8],
     h: Header,
     words: &mut [u64],
@@ -415,17 +416,17 @@ fn eval_branches(
 {
     let mut i = node_at(image, h, n as usize).a;
     while i != 0 {
-        let one = eval_arm(image, h, words, bytes, run, n, i, depth);
+        let one = ir_arm(image, h, words, bytes, run, n, i, depth);
         if let Progress::Out(r) = one {
             return r;
         }
         i = onward(node_at(image, h, i as usize), i);
     }
-    eval_default(image, h, words, bytes, run, n, depth)
+    ir_default(image, h, words, bytes, run, n, depth)
 }
 
 // "no arm and no default gives unit"
-fn eval_default(
+fn ir_default(
     image: &[u8],
     h: Header,
     words: &mut [u64],
@@ -441,10 +442,10 @@ fn eval_default(
     if node.b == 0 {
         return Outcome::Done(Value::Unit);
     }
-    eval_body(image, h, words, bytes, run, node.b, depth + 1)
+    ir_body(image, h, words, bytes, run, node.b, depth + 1)
 }
 
-fn eval_loop(
+fn ir_loop(
     image: &[u8],
     h: Header,
     words: &mut [u64],
@@ -459,7 +460,7 @@ fn eval_loop(
     let scope = run[SCOPE];
     open(run);
     loop {
-        let one = eval_turn(image, h, words, bytes, run, n, depth, scope);
+        let one = ir_turn(image, h, words, bytes, run, n, depth, scope);
         if let Progress::Out(r) = one {
             return r;
         }
@@ -467,7 +468,7 @@ fn eval_loop(
 }
 
 // A turn of loop n, "emptied before each condition"; the scope before its own begins at `scope`.
-fn eval_turn(
+fn ir_turn(
     image: &[u8],
     h: Header,
     words: &mut [u64],
@@ -482,12 +483,12 @@ fn eval_turn(
 {
     let node = node_at(image, h, n as usize);
     if node.a == 0 {
-        return eval_pass(image, h, words, bytes, run, n, depth, scope);
+        return ir_pass(image, h, words, bytes, run, n, depth, scope);
     }
     empty(run);
-    let one = eval_condition(image, h, words, bytes, run, node.a, depth);
+    let one = ir_condition(image, h, words, bytes, run, node.a, depth);
     match told(node.a, one) {
-        Told::Holds => eval_pass(image, h, words, bytes, run, n, depth, scope),
+        Told::Holds => ir_pass(image, h, words, bytes, run, n, depth, scope),
         Told::Fails => {
             close(run, scope);
             Progress::Out(Outcome::Done(Value::Unit))
@@ -497,7 +498,7 @@ fn eval_turn(
 }
 
 // A pass through the body of loop n.
-fn eval_pass(
+fn ir_pass(
     image: &[u8],
     h: Header,
     words: &mut [u64],
@@ -512,6 +513,6 @@ fn eval_pass(
 {
     let node = node_at(image, h, n as usize);
     let from = run[SCOPE];
-    let one = eval_body(image, h, words, bytes, run, node.b, depth + 1);
+    let one = ir_body(image, h, words, bytes, run, node.b, depth + 1);
     after_pass(image, h, run, n, scope, from, one)
 }

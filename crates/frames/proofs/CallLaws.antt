@@ -20,15 +20,15 @@ use Rattle.rules.proofs.Going.{to}
 use Rattle.rules.proofs.ItemMoves.{wrong-count, too-many-bound, call-entered}
 use Rattle.rules.proofs.BreakMoves.{break-in-call}
 use Rattle.stores.specs.Stores.{storeOf, takesOf, scopeOf, floorOf, pendingOf, Fits, BecameRun, TriedWords}
-use Rattle.stores.specs.Scopes.{argumentsBound}
+use Rattle.bindings.specs.Scopes.{argumentsBound}
 use Rattle.stores.proofs.PendingLaws.{length-pending}
 use Rattle.building.specs.Making.{IsKind}
-use Rattle.frames.specs.declared.Outcome.{Outcome}
-use Rattle.frames.specs.declared.Outcome.the-variants.{Done, Broke, Refused}
-use Rattle.frames.specs.declared.Progress.the-variants.{On, Out}
-use Rattle.frames.specs.Post.{EveryAfterRun}
+use Rattle.outcomes.specs.declared.Outcome.{Outcome}
+use Rattle.outcomes.specs.declared.Outcome.the-variants.{Done, Broke, Refused}
+use Rattle.outcomes.specs.declared.Progress.the-variants.{On, Out}
+use Rattle.outcomes.specs.Post.{EveryAfterRun}
 use Rattle.frames.specs.Calls.{CallEntered}
-use Rattle.frames.proofs.Ways.{refused, out-of, became-post}
+use Rattle.outcomes.proofs.Ways.{refused, out-of, became-post}
 
 -- ---- a value that leaves a scope or a call, and a break that reaches a call
 

@@ -1,10 +1,2 @@
-pub mod Ways
-pub mod NodeLaws
-pub mod KindLaws
-pub mod EnterLaws
-pub mod LeafLaws
 pub mod CallLaws
 pub mod LoopLaws
-pub mod OperandLaws
-pub mod BinaryLaws
-pub mod ItemLaws

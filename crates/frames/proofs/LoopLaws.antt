@@ -14,16 +14,16 @@ use Rattle.rules.specs.declared.Refusal.the-variants.{NotBool, BreakWithValue}
 use Rattle.rules.specs.Machine.{turn}
 use Rattle.rules.proofs.Moves.{body-done}
 use Rattle.rules.proofs.BreakMoves.{break-elsewhere, break-ends, break-with-value}
-use Rattle.stores.specs.Scopes.{brokenOut}
+use Rattle.bindings.specs.Scopes.{brokenOut}
 use Rattle.stores.specs.Stores.{BecameRun}
 use Rattle.targets.proofs.Tags.{no-bool}
-use Rattle.frames.specs.declared.Outcome.{Outcome}
-use Rattle.frames.specs.declared.Outcome.the-variants.{Done, Broke, Refused, Spent}
-use Rattle.frames.specs.declared.Progress.the-variants.{On, Out as Outward}
+use Rattle.outcomes.specs.declared.Outcome.{Outcome}
+use Rattle.outcomes.specs.declared.Outcome.the-variants.{Done, Broke, Refused, Spent}
+use Rattle.outcomes.specs.declared.Progress.the-variants.{On, Out as Outward}
 use Rattle.frames.specs.declared.Told.the-variants.{Out}
-use Rattle.frames.specs.Outcomes.{IsNode}
+use Rattle.outcomes.specs.Outcomes.{IsNode}
 use Rattle.frames.specs.Loops.{toldBy, toldOf, BreakSeen, PassOver}
-use Rattle.frames.proofs.Ways.{NoValue, Final, refused, out-of, after-out, after-final, became-post}
+use Rattle.outcomes.proofs.Ways.{NoValue, Final, refused, out-of, after-out, after-final, became-post}
 
 -- ---- conditions
 

@@ -5,8 +5,8 @@ use Rattle.packed.specs.declared.layout.Header.{Header}
 use Rattle.packed.specs.Layout.{functionAt, nodeAt}
 use Rattle.rules.specs.Machine.{enter, items, callOf}
 use Rattle.stores.specs.Stores.{scopeOf, floorOf}
-use Rattle.frames.specs.declared.Progress.{Progress}
-use Rattle.frames.specs.Post.{Advance}
+use Rattle.outcomes.specs.declared.Progress.{Progress}
+use Rattle.outcomes.specs.Post.{Advance}
 
 abbrev pub CallEntered : List ℕ → Header → ℕ → ℕ → List ℕ → List ℕ → List ℕ → List ℕ → Progress → Type 0
 CallEntered image h n from run words run′ words′ r =

@@ -9,12 +9,12 @@ use Rattle.rules.specs.declared.Refusal.the-variants.{NotBool}
 use Rattle.rules.specs.Store.{asBool}
 use Rattle.rules.specs.Machine.{turn, brk, bodyOf}
 use Rattle.stores.specs.Stores.{Fits}
-use Rattle.frames.specs.declared.Outcome.{Outcome}
-use Rattle.frames.specs.declared.Outcome.the-variants.{Done, Broke, Refused, Spent}
-use Rattle.frames.specs.declared.Progress.{Progress}
+use Rattle.outcomes.specs.declared.Outcome.{Outcome}
+use Rattle.outcomes.specs.declared.Outcome.the-variants.{Done, Broke, Refused, Spent}
+use Rattle.outcomes.specs.declared.Progress.{Progress}
 use Rattle.frames.specs.declared.Told.{Told}
 use Rattle.frames.specs.declared.Told.the-variants.{Holds, Fails, Out}
-use Rattle.frames.specs.Post.{Post, AfterRunOn}
+use Rattle.outcomes.specs.Post.{Post, AfterRunOn}
 
 -- "A condition that isn't bool is 15", at the condition
 abbrev pub toldBy : ℕ → Option Bool → Told

@@ -1,21 +1,21 @@
 // A function's body, entered and left.
-use crate::Outcome;
-use crate::Progress;
+use bindings::bind_arguments;
+use bindings::end_call;
+use outcomes::Outcome;
+use outcomes::Progress;
 use packed::layout::Function;
 use packed::layout::Header;
 use packed::layout::function_at;
 use packed::layout::node_at;
 use rules::Refusal;
 use stores::pending::pending_since;
-use stores::scopes::bind_arguments;
-use stores::scopes::end_call;
 ghost use mathlib.Core.Path.{_≡_};
 ghost use mathlib.Core.List.{[], _∷_};
 ghost use Rattle.packed.specs.Layout.{functionAt, nodeAt};
 ghost use Rattle.rules.specs.Machine.{Frame};
 ghost use Rattle.stores.specs.Stores.{Fits};
 ghost use Rattle.building.specs.Making.{IsKind};
-ghost use Rattle.frames.specs.Post.{EveryAfterRun};
+ghost use Rattle.outcomes.specs.Post.{EveryAfterRun};
 ghost use Rattle.frames.specs.Calls.{CallEntered};
 
 // The function that node n calls.

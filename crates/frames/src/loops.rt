@@ -1,14 +1,14 @@
 // What a condition tells, and what a pass through a loop's body leaves to do.
-use crate::Outcome;
-use crate::Progress;
 use crate::Told;
+use bindings::break_out;
+use outcomes::Outcome;
+use outcomes::Progress;
 use packed::layout::Header;
 use packed::layout::node_at;
 use rules::Refusal;
 use rules::Value;
-use stores::scopes::break_out;
 ghost use mathlib.Core.Path.{_≡_};
-ghost use Rattle.frames.specs.Outcomes.{IsNode, IsBreak};
+ghost use Rattle.outcomes.specs.Outcomes.{IsNode, IsBreak};
 ghost use Rattle.frames.specs.Loops.{toldOf, BreakSeen, PassOver};
 
 // What the condition at node c told: "A condition that isn't bool is 15".

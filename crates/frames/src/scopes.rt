@@ -1,9 +1,9 @@
 // A scope left.
-use crate::Outcome;
-use stores::scopes::close;
+use bindings::close;
+use outcomes::Outcome;
 ghost use mathlib.Core.List.{[], _∷_};
 ghost use Rattle.rules.specs.Machine.{Frame};
-ghost use Rattle.frames.specs.Post.{EveryAfterRun};
+ghost use Rattle.outcomes.specs.Post.{EveryAfterRun};
 
 // After the last expression of a scope, or the body of an arm; the scope before it begins at `scope`. A break leaves it to the loop that it ends.
 pub fn leave_scope(run: &mut [u64; 16], scope: u64, one: Outcome) -> Outcome

@@ -17,9 +17,9 @@ use Rattle.kinds.specs.declared.Role.the-variants.{Unlisted, Number, Literal, T
 use Rattle.packed.specs.Layout.{nodeAt}
 use Rattle.kinds.specs.Kinds.{isOf, rowOf}
 use Rattle.image.specs.declared.Loaded.the-variants.{Image}
-use Rattle.image.specs.Tree.{named, times, namesOf, bodies, nodeNames, namings, heading, marked, chainBy}
+use Rattle.tree.specs.Tree.{named, times, namesOf, bodies, nodeNames, namings, heading, marked, chainBy}
 use Rattle.image.specs.Load.{loadOf}
-use Rattle.image.proofs.Counting.{times-append}
+use Rattle.tree.proofs.Counting.{times-append}
 use Rattle.image.proofs.Loads.{Reaches, nothing, on, kind-known, a-reaches, next-reaches, named-once}
 
 -- m stands in the chain that node n heads

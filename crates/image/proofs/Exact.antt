@@ -9,17 +9,17 @@ use lib.Dec.{ltb, leb, eqb}
 use lib.ListN.{length}
 use Rattle.fields.proofs.Tests.{and-both}
 use Rattle.packed.specs.declared.layout.Header.{Header}
-use Rattle.image.specs.declared.first.Found.{Found}
-use Rattle.image.specs.declared.first.Found.the-variants.{At, Nowhere}
+use Rattle.records.specs.declared.first.Found.{Found}
+use Rattle.records.specs.declared.first.Found.the-variants.{At, Nowhere}
 use Rattle.image.specs.declared.Loaded.{Loaded}
 use Rattle.image.specs.declared.Loaded.the-variants.{BadLength, BadHeader}
-use Rattle.image.specs.First.{firstFrom, Never}
+use Rattle.records.specs.First.{firstFrom, Never}
 use Rattle.packed.specs.Layout.{headerOf, sizeOf}
-use Rattle.image.specs.Records.{isNode, recordBad, recordOffset, recordsIn, placed, badRecord}
-use Rattle.image.specs.Tree.{atFault, lowestFault}
+use Rattle.records.specs.Records.{isNode, recordBad, recordOffset, recordsIn, placed, badRecord}
+use Rattle.tree.specs.Tree.{atFault, lowestFault}
 use Rattle.image.specs.Load.{byTree, byRecords, judged, loadOf}
 use Rattle.image.specs.Answers.{HeaderRight, Answers, short, otherEdition, otherLength, noRoot, badRecord as badRecordThere, badTree, loads}
-use Rattle.image.proofs.Search.{found, is-found, nowhere, is-nowhere}
+use Rattle.records.proofs.Search.{found, is-found, nowhere, is-nowhere}
 
 -- a root within the nodes, as a test and as facts
 root-so : (nodes root : ℕ) → isNode nodes root ≡ true → (1 ≤ root) × (root ≤ nodes)

@@ -1,11 +1,3 @@
-pub mod Roles
-pub mod Below
-pub mod Good
-pub mod Search
-pub mod GoodRecords
-pub mod Counting
-pub mod Marking
 pub mod Exact
 pub mod Loads
 pub mod Chains
-pub mod Texts

@@ -19,19 +19,19 @@ use Rattle.kinds.specs.declared.Class.the-variants.{Expression, Scope}
 use Rattle.kinds.specs.declared.KindRow.{KindRow}
 use Rattle.kinds.specs.declared.Role.{Role}
 use Rattle.kinds.specs.declared.Role.the-variants.{Unlisted, Number, Literal, Text, Function, Node as NodeRole}
-use Rattle.image.specs.declared.first.Found.the-variants.{Nowhere}
+use Rattle.records.specs.declared.first.Found.the-variants.{Nowhere}
 use Rattle.image.specs.declared.Loaded.{Loaded}
 use Rattle.image.specs.declared.Loaded.the-variants.{Image}
-use Rattle.image.specs.First.{Never}
+use Rattle.records.specs.First.{Never}
 use Rattle.packed.specs.Layout.{nodeAt, literalAt, partAt, functionAt}
 use Rattle.kinds.specs.Kinds.{isOf, rowOf, table, none}
-use Rattle.image.specs.Records.{fits, partGood, partOf, payloadGood, literalGood, functionGood, recordBad, recordsIn, badRecord}
-use Rattle.image.specs.Tree.{named, times, bodies, namings, heading, chainBy, goes, parts, namesWell, isNamedWell, nodeRight, atFault}
+use Rattle.records.specs.Records.{fits, partGood, partOf, payloadGood, literalGood, functionGood, recordBad, recordsIn, badRecord}
+use Rattle.tree.specs.Tree.{named, times, bodies, namings, heading, chainBy, goes, parts, namesWell, isNamedWell, nodeRight, atFault}
 use Rattle.image.specs.Load.{loadOf}
 use Rattle.image.specs.Answers.{HeaderRight, Answers, short, otherEdition, otherLength, noRoot, badRecord as badRecordThere, badTree, loads}
-use Rattle.image.proofs.Search.{is-nowhere}
-use Rattle.image.proofs.Good.{Good, good-node, fits-named}
-use Rattle.image.proofs.GoodRecords.{function-good, node-good, literal-good}
+use Rattle.records.proofs.Search.{is-nowhere}
+use Rattle.tree.proofs.Good.{Good, good-node, fits-named}
+use Rattle.records.proofs.GoodRecords.{function-good, node-good, literal-good}
 use Rattle.image.proofs.Exact.{answers}
 
 -- ---- where a reference goes

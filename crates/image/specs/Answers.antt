@@ -6,10 +6,10 @@ use lib.ListN.{length}
 use Rattle.packed.specs.declared.layout.Header.{Header}
 use Rattle.image.specs.declared.Loaded.{Loaded}
 use Rattle.image.specs.declared.Loaded.the-variants.{Image, BadLength, BadHeader, BadRecord, BadTree}
-use Rattle.image.specs.First.{First, Never}
+use Rattle.records.specs.First.{First, Never}
 use Rattle.packed.specs.Layout.{headerOf, sizeOf}
-use Rattle.image.specs.Records.{recordBad, recordOffset, recordsIn}
-use Rattle.image.specs.Tree.{atFault}
+use Rattle.records.specs.Records.{recordBad, recordOffset, recordsIn}
+use Rattle.tree.specs.Tree.{atFault}
 
 -- the header stands whole, of edition 1, in an image as long as it says, and its root is a node
 pub record HeaderRight (image : List ℕ) (h : Header) : Type 0 where

@@ -1,5 +1,2 @@
-pub mod First
-pub mod Records
-pub mod Tree
 pub mod Load
 pub mod Answers

@@ -5,13 +5,13 @@ use mathlib.Core.List.{List}
 use lib.Dec.{ltb, eqb}
 use lib.ListN.{length}
 use Rattle.packed.specs.declared.layout.Header.{Header}
-use Rattle.image.specs.declared.first.Found.{Found}
-use Rattle.image.specs.declared.first.Found.the-variants.{At, Nowhere}
+use Rattle.records.specs.declared.first.Found.{Found}
+use Rattle.records.specs.declared.first.Found.the-variants.{At, Nowhere}
 use Rattle.image.specs.declared.Loaded.{Loaded}
 use Rattle.image.specs.declared.Loaded.the-variants.{Image, BadLength, BadHeader, BadRecord, BadTree}
 use Rattle.packed.specs.Layout.{headerOf, sizeOf}
-use Rattle.image.specs.Records.{isNode, badRecord}
-use Rattle.image.specs.Tree.{lowestFault}
+use Rattle.records.specs.Records.{isNode, badRecord}
+use Rattle.tree.specs.Tree.{lowestFault}
 
 -- the tree is judged once every record is good
 abbrev pub byTree : Header → Found → Loaded

@@ -1,13 +1,9 @@
 // Which images of document 01 load, and the refusals 1 to 4 of those that do not.
-pub mod first; // what a search finds
-pub mod records; // refusal 3
-pub mod tree; // refusal 4
-
-use first::Found;
 use packed::layout::Header;
 use packed::layout::header_of;
 use packed::layout::size_of;
 use records::bad_record;
+use records::first::Found;
 use records::is_node;
 use tree::lowest_fault;
 ghost use mathlib.Core.Path.{_≡_};

@@ -9,16 +9,16 @@ use lib.Dec.{ltb, eqb}
 use lib.ListN.{length}
 use Rattle.fields.proofs.Laws.{field-below}
 use Rattle.packed.specs.declared.layout.Header.{Header}
-use Rattle.image.specs.declared.first.Found.{Found}
-use Rattle.image.specs.declared.first.Found.the-variants.{At, Nowhere}
+use Rattle.records.specs.declared.first.Found.{Found}
+use Rattle.records.specs.declared.first.Found.the-variants.{At, Nowhere}
 use Rattle.image.specs.declared.Loaded.{Loaded}
 use Rattle.image.specs.declared.Loaded.the-variants.{Image, BadLength, BadHeader, BadRecord, BadTree}
-use Rattle.image.specs.First.{firstFrom}
+use Rattle.records.specs.First.{firstFrom}
 use Rattle.packed.specs.Layout.{headerOf, sizeOf, functionOffset, nodeOffset, literalOffset}
-use Rattle.image.specs.Records.{isNode, recordsIn, recordOffset, recordBad, placed, badRecord}
-use Rattle.image.specs.Tree.{atFault, lowestFault}
+use Rattle.records.specs.Records.{isNode, recordsIn, recordOffset, recordBad, placed, badRecord}
+use Rattle.tree.specs.Tree.{atFault, lowestFault}
 use Rattle.image.specs.Load.{byTree, byRecords, judged, loadOf, numberOf, placeOf}
-use Rattle.image.proofs.Search.{found}
+use Rattle.records.proofs.Search.{found}
 
 pub number-small : (l : Loaded) → numberOf l ≤ 4
 number-small (Image h) = omega arith

@@ -21,9 +21,9 @@ use Rattle.packed.specs.Layout.{headerOf, nodeAt, functionAt, literalAt, partAt
 use Rattle.kinds.specs.Kinds.{rowOf, table, tagRole}
 use Rattle.image.specs.declared.Loaded.{Loaded}
 use Rattle.image.specs.declared.Loaded.the-variants.{Image, BadLength, BadHeader, BadRecord, BadTree}
-use Rattle.image.specs.First.{firstFrom}
-use Rattle.image.specs.Records.{functionGood, fits, nodeGood, partGood, partOf, payloadGood, literalGood, recordGood, recordOffset, badRecord}
-use Rattle.image.specs.Tree.{times, namesOf, bodies, nodeNames, namings, chainBy, goes, parts, namesWell, isNamedWell, nodeRight, lowestFault}
+use Rattle.records.specs.First.{firstFrom}
+use Rattle.records.specs.Records.{functionGood, fits, nodeGood, partGood, partOf, payloadGood, literalGood, recordGood, recordOffset, badRecord}
+use Rattle.tree.specs.Tree.{times, namesOf, bodies, nodeNames, namings, chainBy, goes, parts, namesWell, isNamedWell, nodeRight, lowestFault}
 use Rattle.image.specs.Load.{judged, loadOf}
 use Rattle.image.proofs.Loads.{header-right}
 use Rattle.numbers.specs.Ints.{assignOf, binaryIntOf}

@@ -12,7 +12,7 @@ use lib.Dec.{eqb, ltb}
 use lib.ListN.{length, drop}
 use Rattle.packed.specs.declared.layout.Header.{Header}
 use Rattle.packed.specs.Layout.{nodeAt}
-use Rattle.image.proofs.Below.{node-below}
+use Rattle.tree.proofs.Below.{node-below}
 use Rattle.rules.specs.declared.Value.{Value}
 use Rattle.rules.specs.declared.Value.the-variants.{Unit as VUnit, Bool as VBool, Vec, Tuple, Object}
 use Rattle.rules.specs.declared.Answer.the-variants.{Spent}

@@ -4,4 +4,4 @@ pub mod Regions
 pub mod Chains
 pub mod Counted
 pub mod PendingLaws
-pub mod ScopeLaws
+pub mod FoundLaws

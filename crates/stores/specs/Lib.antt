@@ -1,4 +1,4 @@
 pub mod View
 pub mod Stores
+pub mod Finding
 pub mod Pending
-pub mod Scopes

@@ -1,7 +1,6 @@
 // The store of the rules on lent words and bytes. docs/STORES.md has the layout.
 pub mod pending; // pending items
 pub mod run; // the run's numbers
-pub mod scopes; // bindings and scopes
 
 // What was sought, by its number.
 pub enum Found {

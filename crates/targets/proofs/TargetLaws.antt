@@ -27,7 +27,8 @@ use Rattle.rules.specs.Store.{Store, sought, entryAt, partText, literalText, it
 use Rattle.rules.specs.Targets.{Wrote, done, refused, namePlace, fieldIn, fieldPlace, indexIn, indexPlace, readAt, afterRead, readTarget, targetRead, partPlace, targetPlace, enteredIn, setPlace, targetSet, assigned, assignTo, assignPlace, targetAssigned}
 use Rattle.stores.specs.declared.Found.{Found}
 use Rattle.stores.specs.declared.Found.the-variants.{At, Nothing}
-use Rattle.stores.specs.Scopes.{foundOf, Sought, BoundAt}
+use Rattle.bindings.specs.Scopes.{Sought, BoundAt}
+use Rattle.stores.specs.Finding.{foundOf}
 use Rattle.boxes.specs.Cells.{ItemAt, CellAt, EntryAt, fieldEntered}
 use Rattle.stores.specs.Stores.{storeOf, Fits, BecameWords, TriedWords}
 use Rattle.targets.specs.declared.Written.{Written}

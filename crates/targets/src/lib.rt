@@ -1,9 +1,12 @@
 // Targets, as interpreter.rs has them: what a name, a field or an index names, read, set and assigned.
-use boxes::cells::cell_at;
-use boxes::cells::enter_field;
-use boxes::cells::entry_at;
-use boxes::cells::item_at;
-use boxes::cells::store_cell;
+use bindings::bound_at;
+use bindings::look_up;
+use bindings::rebind;
+use boxes::cell_at;
+use boxes::enter_field;
+use boxes::entry_at;
+use boxes::item_at;
+use boxes::store_cell;
 use numbers::Arith;
 use numbers::assign_int;
 use packed::layout::Header;
@@ -14,9 +17,6 @@ use rules::Refusal;
 use rules::Value;
 use slots::literals::key_of;
 use stores::Found;
-use stores::scopes::bound_at;
-use stores::scopes::look_up;
-use stores::scopes::rebind;
 ghost use mathlib.Core.Path.{_≡_};
 ghost use Prim.Native.Nat.{_≤_, _<_};
 ghost use lib.ListN.{length};

@@ -6,11 +6,11 @@ use denote.Ref.{now}
 use borrow.Author.Tests.{not-true, not-false, eq-eqb, ne-eqb}
 use Rattle.image.specs.declared.Loaded.{Loaded}
 use Rattle.image.specs.declared.Loaded.the-variants.{BadHeader}
-use Rattle.image.specs.Records.{isNode, badRecord}
-use Rattle.image.specs.Tree.{lowestFault}
+use Rattle.records.specs.Records.{isNode, badRecord}
+use Rattle.tree.specs.Tree.{lowestFault}
 use Rattle.image.specs.Load.{byTree, byRecords, judged}
-use Rattle.image.proofs.Below.{header-below}
-use Rattle.image.proofs.GoodRecords.{node-good}
+use Rattle.tree.proofs.Below.{header-below}
+use Rattle.records.proofs.GoodRecords.{node-good}
 use borrow.Author.Needs.{needs}
 use Rattle.image.proofs.judge.Statement.{statement}
 use Rattle.image.proofs.judge.Tie as tie

@@ -1,5 +1,5 @@
 -- `frames::calls::function_of` meets its contract: the tag of a call is a function's number. Assumes nothing.
-use Rattle.frames.proofs.NodeLaws.{node-there, as-node, call-names}
+use Rattle.outcomes.proofs.NodeLaws.{node-there, as-node, call-names}
 use borrow.Author.Needs.{needs}
 use Rattle.frames.proofs.calls.function_of.Statement.{statement}
 use Rattle.frames.proofs.calls.function_of.Tie as tie

@@ -1,8 +1,8 @@
 -- `frames::calls::leave_call` meets its contract: a value leaves the call, a break is refused, and what is neither stays. Assumes nothing.
 use mathlib.Core.Path.{refl}
 use Rattle.rules.proofs.ItemMoves.{call-done}
-use Rattle.frames.specs.declared.Outcome.the-variants.{Done}
-use Rattle.frames.proofs.Ways.{after-final}
+use Rattle.outcomes.specs.declared.Outcome.the-variants.{Done}
+use Rattle.outcomes.proofs.Ways.{after-final}
 use Rattle.frames.proofs.CallLaws.{value-left, call-broken}
 use borrow.Author.Needs.{needs}
 use Rattle.frames.proofs.calls.leave_call.Statement.{statement}

@@ -1,5 +1,5 @@
 -- `frames::loops::after_pass` meets its contract: `pass-done`, `pass-broken`, `pass-out`. Assumes nothing.
-use Rattle.frames.proofs.NodeLaws.{break-there}
+use Rattle.outcomes.proofs.NodeLaws.{break-there}
 use Rattle.frames.proofs.LoopLaws.{pass-done, pass-broken, pass-out}
 use borrow.Author.Needs.{needs}
 use Rattle.frames.proofs.loops.after_pass.Statement.{statement}

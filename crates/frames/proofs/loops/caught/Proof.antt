@@ -2,7 +2,7 @@
 use mathlib.Core.Logic.{inl, inr, ⊎-elim}
 use lib.Dec.{eqb}
 use borrow.Author.Tests.{eqb-true, eqb-false, not-true, not-false}
-use Rattle.frames.proofs.NodeLaws.{node-there}
+use Rattle.outcomes.proofs.NodeLaws.{node-there}
 use Rattle.frames.proofs.LoopLaws.{goes-on, refused-value, loop-ended}
 use borrow.Author.Needs.{needs}
 use Rattle.frames.proofs.loops.caught.Statement.{statement}

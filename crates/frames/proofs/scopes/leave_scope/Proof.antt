@@ -1,7 +1,7 @@
 -- `frames::scopes::leave_scope` meets its contract: a value leaves the scope, and what is none passes. Assumes nothing.
 use mathlib.Core.Path.{refl}
 use Rattle.rules.proofs.Moves.{scope-closed}
-use Rattle.frames.proofs.Ways.{after-past}
+use Rattle.outcomes.proofs.Ways.{after-past}
 use Rattle.frames.proofs.CallLaws.{value-left}
 use borrow.Author.Needs.{needs}
 use Rattle.frames.proofs.scopes.leave_scope.Statement.{statement}

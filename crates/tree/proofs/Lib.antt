@@ -1,0 +1,5 @@
+pub mod Roles
+pub mod Below
+pub mod Good
+pub mod Counting
+pub mod Marking
