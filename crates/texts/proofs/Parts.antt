@@ -1,6 +1,6 @@
--- A part of a list, `slice s (s + n) l`: how long it is, a part of a part, and of two lists; a part put elsewhere; two parts compared. Assumes nothing.
+-- A part of a list, `slice s (s + n) l`: how long it is, a part of a part, and of two lists; a part put elsewhere; two parts compared and put in order. Assumes nothing.
 use mathlib.Core.Path.{_≡_, refl, sym, ap, ap₂, _∙_}
-use mathlib.Core.Bool.{true, false}
+use mathlib.Core.Bool.{Bool, true, false, cond}
 use mathlib.Core.Logic.{_≢_}
 use mathlib.Core.List.{List, [], _∷_, _++_}
 use Prim.Native.Nat.{ℕ, zero, suc, _+_, _-_, _≤_, _<_}
@@ -8,11 +8,13 @@ use native.Mathlib.Nat.{add-zero, add-sub-of-le, sub-zero, zero-sub, suc-sub-suc
 use native.Mathlib.Decide.{ℕ-discrete}
 use native.Mathlib.Numerals.{add-one}
 use native.Mathlib.Omega.{arith}
-use borrow.Author.Tests.{eq-eqb, ne-eqb}
+use borrow.Author.Tests.{le-ltb, eq-eqb, ne-eqb}
+use lib.Dec.{ltb}
 use lib.ListN.{length, getD, set, take, drop, length-take, length-drop, drop-of-length-le}
-use lib.Seq.{sets, slice, slice-empty, length-slice, take-suc, take-all, take-take, take-nil, drop-nil, drop-drop, getD-take, getD-drop}
+use lib.Seq.{sets, slice, slice-empty, length-slice, take-suc, take-all, take-take, take-nil, slice-cons, drop-nil, drop-drop, getD-take, getD-drop}
 use Rattle.numbers.proofs.DecimalLaws.{take-sets}
 use Rattle.rules.specs.Store.{sameText}
+use Rattle.rules.specs.Output.{ascending}
 use Rattle.stores.proofs.Views.{drop-take}
 
 -- ---- where a part is, and how long
@@ -142,3 +144,42 @@ module _ (l : List ℕ) (p q : ℕ) where
   agree-not i n h ne =
       other-text (slice p (p + n) l) (slice q (q + n) l)
       (λ e. ne (sym (part-at p n i l h) ∙ ap (λ (r : List ℕ). getD r i 0) e ∙ part-at q n i l h))
+
+-- ---- two texts in order
+
+part-done : (s n i : ℕ) (l : List ℕ) → n ≤ i → slice (s + i) (s + n) l ≡ []
+part-done s n i l h = drop-of-length-le (take (s + n) l) {i = s + i} (omega (arith, length-take (s + n) l))
+
+part-next : (s n i : ℕ) (l : List ℕ) → i < n → s + n ≤ length l → slice (s + i) (s + n) l ≡ getD l (s + i) 0 ∷ slice (s + (i + 1)) (s + n) l
+part-next s n i l h within =
+    let next : suc (s + i) ≡ s + (i + 1) = omega arith in
+    slice-cons (s + i) (s + n) l 0 (omega arith) within ∙ ap (λ (k : ℕ). getD l (s + i) 0 ∷ slice k (s + n) l) next
+
+-- n bytes from p on and m from q on, the first i of each passed
+module _ (l : List ℕ) (p n q m : ℕ) where
+  abbrev pub ascendingFrom : ℕ → Bool
+  ascendingFrom i = ascending (slice (p + i) (p + n) l) (slice (q + i) (q + m) l)
+
+  pub order-start : ascending (slice p (p + n) l) (slice q (q + m) l) ≡ ascendingFrom 0
+  order-start = rw (add-zero p, add-zero q)
+
+  pub order-all : (i : ℕ) → n ≤ i → ascendingFrom i ≡ true
+  order-all i h = rw (part-done p n i l h)
+
+  module _ (i : ℕ) (more : i < n) (first : p + n ≤ length l) where
+    pub order-short : m ≤ i → ascendingFrom i ≡ false
+    order-short h = rw (part-next p n i l more first, part-done q m i l h)
+
+    module _ (also : i < m) (second : q + m ≤ length l) where
+      pub order-next : getD l (p + i) 0 ≡ getD l (q + i) 0 → ascendingFrom i ≡ ascendingFrom (i + 1)
+      order-next e =
+          rw (part-next p n i l more first, part-next q m i l also second, le-ltb (getD l (p + i) 0) (getD l (q + i) 0) (omega arith), eq-eqb (getD l (p + i) 0) (getD l (q + i) 0) e)
+
+      pub order-told : getD l (p + i) 0 ≢ getD l (q + i) 0 → ascendingFrom i ≡ ltb (getD l (p + i) 0) (getD l (q + i) 0)
+      order-told ne =
+          rw (part-next p n i l more first, part-next q m i l also second, ne-eqb (getD l (p + i) 0) (getD l (q + i) 0) ne)
+          (go (ltb (getD l (p + i) 0) (getD l (q + i) 0)))
+        where
+          go : (b : Bool) → cond b true false ≡ b
+          go true = refl
+          go false = refl

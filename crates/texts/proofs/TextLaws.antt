@@ -16,8 +16,10 @@ use Rattle.numbers.specs.declared.decimal.Put.the-variants.{End, NoRoom}
 use Rattle.numbers.specs.Decimal.{putOf, endOf}
 use Rattle.numbers.proofs.DecimalLaws.{room, no-room, take-sets}
 use Rattle.rules.specs.Store.{imageText, partText, sameText}
+use Rattle.rules.specs.Output.{ascending}
 use Rattle.texts.specs.declared.Span.{Span}
-use Rattle.texts.specs.Text.{Spans, firstPart, imagePart, literalPart, poolText}
+use Rattle.texts.specs.declared.Sources.{Sources}
+use Rattle.texts.specs.Text.{Spans, firstPart, imagePart, literalPart, poolText, Sourced}
 use Rattle.stores.proofs.Views.{drop-take}
 use Rattle.texts.proofs.Parts.{length-part, first-none, first-left, first-all, part-of-rest, part-of-both, sets-both, other-text}
 
@@ -84,20 +86,20 @@ module _ (image : List ℕ) (h : Header) (whole : sizeOf h ≤ length image) (p 
       → sameText (bytes-at image a) (slice (b .from) (b .from + a .count) image) ≡ sameText (partText image h p) (partText image h q)
   literals-same e = rw (first .is image, second .is image, e)
 
+  pub literals-ascend : ascending (bytes-at image a) (bytes-at image b) ≡ ascending (partText image h p) (partText image h q)
+  literals-ascend = rw (first .is image, second .is image)
+
 -- ---- a part of the image's text and of what was built
 
-module _ (image : List ℕ) (h : Header) (whole : sizeOf h ≤ length image) (made start len : ℕ) (bytes : List ℕ) (a b : Span)
+abbrev sourcesOf : Span → Span → Sources
+sourcesOf a b = record { «image_from» = a .from; «image_count» = a .count; «built_from» = b .from; «built_count» = b .count }
+
+module _ (h : Header) (made start len : ℕ) (a b : Span)
     (first : Spans (sizeOf h) len (imagePart h start len) a)
     (second : Spans made (len - a .count) (firstPart made (start - h .text) (len - a .count)) b) where
-  abbrev text : List ℕ
-  text = poolText image h made bytes start len
-
-  long : length (bytes-at image a) ≡ a .count
-  long = length-part (a .from) (a .count) image (omega (arith, first .within))
-
-  pool-is : text ≡ bytes-at image a ++ bytes-at bytes b
+  pool-is : (image bytes : List ℕ) → sizeOf h ≤ length image → poolText image h made bytes start len ≡ bytes-at image a ++ bytes-at bytes b
   unfolding poolText
-  pool-is =
+  pool-is image bytes whole =
       let total : length (imageText image h) ≡ h .text = length-part (textAt h) (h .text) image whole in
       let found : length (imagePart h start len image) ≡ a .count = span-length (imagePart h start len) a first image whole in
       part-of-both start len (imageText image h) (take made bytes)
@@ -106,14 +108,36 @@ module _ (image : List ℕ) (h : Header) (whole : sizeOf h ≤ length image) (ma
       (ap₂ (λ (s n : ℕ). slice s (s + n) (take made bytes)) (ap (λ (k : ℕ). start - k) total) (ap (λ (k : ℕ). len - k) found)
       ∙ second .is bytes)
 
-  pool-length : made ≤ length bytes → length text ≡ a .count + b .count
+  pub sourced : Sourced h made start len (sourcesOf a b)
+  sourced =
+      record {
+        in-image = first .within;
+        in-built = second .within;
+        short = omega (arith, first .short, second .short);
+        is = pool-is;
+      }
+
+module _ (image : List ℕ) (h : Header) (whole : sizeOf h ≤ length image) (made start len : ℕ) (bytes : List ℕ) (r : Sources) (from : Sourced h made start len r) where
+  abbrev text : List ℕ
+  text = poolText image h made bytes start len
+
+  abbrev in-image : List ℕ
+  in-image = slice (r .«image_from») (r .«image_from» + r .«image_count») image
+
+  abbrev in-built : List ℕ → List ℕ
+  in-built l = slice (r .«built_from») (r .«built_from» + r .«built_count») l
+
+  long : length in-image ≡ r .«image_count»
+  long = length-part (r .«image_from») (r .«image_count») image (omega (arith, from .in-image))
+
+  pool-length : made ≤ length bytes → length text ≡ r .«image_count» + r .«built_count»
   pool-length enough =
-      ap length pool-is
-      ∙ length-append (bytes-at image a) (bytes-at bytes b)
-      ∙ ap₂ _+_ long (length-part (b .from) (b .count) bytes (omega (arith, second .within)))
+      ap length (from .is image bytes whole)
+      ∙ length-append in-image (in-built bytes)
+      ∙ ap₂ _+_ long (length-part (r .«built_from») (r .«built_count») bytes (omega (arith, from .in-built)))
 
   module _ (at : ℕ) (before : made ≤ at) where
-    pub pool-none : length bytes < at + (a .count + b .count) → (NoRoom ≡ endOf bytes at text) × (bytes ≡ putOf bytes at text)
+    pub pool-none : length bytes < at + (r .«image_count» + r .«built_count») → (NoRoom ≡ endOf bytes at text) × (bytes ≡ putOf bytes at text)
     pool-none over = go (decLe made (length bytes))
       where
         go : Dec (made ≤ length bytes) → (NoRoom ≡ endOf bytes at text) × (bytes ≡ putOf bytes at text)
@@ -121,16 +145,16 @@ module _ (image : List ℕ) (h : Header) (whole : sizeOf h ≤ length image) (ma
         go (no p) = no-room bytes at text (omega arith)
 
     -- what was built stands before the copies
-    pub pool-all : (bytes₁ bytes₂ : List ℕ) → at + (a .count + b .count) ≤ length bytes
-        → bytes₁ ≡ sets bytes at (bytes-at image a) → bytes₂ ≡ sets bytes₁ (at + a .count) (bytes-at bytes₁ b)
-        → (End (at + (a .count + b .count)) ≡ endOf bytes at text) × (bytes₂ ≡ putOf bytes at text)
+    pub pool-all : (bytes₁ bytes₂ : List ℕ) → at + (r .«image_count» + r .«built_count») ≤ length bytes
+        → bytes₁ ≡ sets bytes at in-image → bytes₂ ≡ sets bytes₁ (at + r .«image_count») (in-built bytes₁)
+        → (End (at + (r .«image_count» + r .«built_count»)) ≡ endOf bytes at text) × (bytes₂ ≡ putOf bytes at text)
     pool-all bytes₁ bytes₂ within e₁ e₂ =
-        let end = b .from + b .count in
-        let same : bytes-at bytes₁ b ≡ bytes-at bytes b =
-        ap (drop (b .from)) (ap (take end) e₁ ∙ take-sets end (bytes-at image a) bytes at (omega (arith, second .within))) in
-        put-all bytes at text (a .count + b .count) (pool-length (omega arith)) bytes₂ within
+        let end = r .«built_from» + r .«built_count» in
+        let same : in-built bytes₁ ≡ in-built bytes =
+        ap (drop (r .«built_from»)) (ap (take end) e₁ ∙ take-sets end in-image bytes at (omega (arith, from .in-built))) in
+        put-all bytes at text (r .«image_count» + r .«built_count») (pool-length (omega arith)) bytes₂ within
         (e₂
-        ∙ ap₂ (λ (l vs : List ℕ). sets l (at + a .count) vs) e₁ same
-        ∙ ap (λ (k : ℕ). sets (sets bytes at (bytes-at image a)) (at + k) (bytes-at bytes b)) (sym long)
-        ∙ sym (sets-both (bytes-at image a) (bytes-at bytes b) bytes at)
-        ∙ ap (sets bytes at) (sym pool-is))
+        ∙ ap₂ (λ (l vs : List ℕ). sets l (at + r .«image_count») vs) e₁ same
+        ∙ ap (λ (k : ℕ). sets (sets bytes at in-image) (at + k) (in-built bytes)) (sym long)
+        ∙ sym (sets-both in-image (in-built bytes) bytes at)
+        ∙ ap (sets bytes at) (sym (from .is image bytes whole)))

@@ -17,13 +17,22 @@ ghost use Rattle.packed.specs.Layout.{sizeOf};
 ghost use Rattle.numbers.specs.Decimal.{putOf, endOf};
 ghost use Rattle.rules.specs.Store.{lengthOf, sameText, partText};
 ghost use Rattle.rules.specs.Building.{boolText};
-ghost use Rattle.texts.specs.Text.{Spans, firstPart, imagePart, literalPart, poolText, joined};
+ghost use Rattle.rules.specs.Output.{ascending};
+ghost use Rattle.texts.specs.Text.{Spans, firstPart, imagePart, literalPart, poolText, Sourced, joined};
 ghost use Rattle.stores.specs.Stores.{textOf, MakesText};
 
 // Bytes of a slice: from which on, and how many.
 struct Span {
     from: usize,
     count: usize,
+}
+
+// Where the bytes of a text stand: first in the image, then among those that were built.
+pub struct Sources {
+    pub image_from: usize,
+    pub image_count: usize,
+    pub built_from: usize,
+    pub built_count: usize,
 }
 
 // A part of `total` bytes, as far as there are bytes.
@@ -114,6 +123,36 @@ pub fn same_part(image: &[u8], h: Header, p: u64, q: u64) -> bool
     same_bytes(image, a.from, b.from, a.count)
 }
 
+// Whether so many bytes from p on are those from q on, or stand before them.
+fn ascending_bytes(image: &[u8], p: usize, count: usize, q: usize, count2: usize) -> bool
+    requires { ⌜ (p + count ≤ length (now image)) × (q + count2 ≤ length (now image)) ⌝ }
+    ensures { λ r. ⌜ r ≡ ascending (slice p (p + count) (now (image .entry))) (slice q (q + count2) (now (image .entry))) ⌝ }
+{
+    let mut i = 0;
+    while i < count {
+        if count2 <= i {
+            return false;
+        }
+        let a = image[p + i];
+        let b = image[q + i];
+        if a != b {
+            return a < b;
+        }
+        i = i + 1;
+    }
+    true
+}
+
+// Whether the text that a payload names is that of another, or stands before it.
+pub fn ascending_part(image: &[u8], h: Header, p: u64, q: u64) -> bool
+    requires { ⌜ sizeOf h ≤ length (now image) ⌝ }
+    ensures { λ r. ⌜ r ≡ ascending (partText (now (image .entry)) h p) (partText (now (image .entry)) h q) ⌝ }
+{
+    let a = literal_span(h, p);
+    let b = literal_span(h, q);
+    ascending_bytes(image, a.from, a.count, b.from, b.count)
+}
+
 // So many bytes put at `at`.
 fn copy_from(source: &[u8], from: usize, count: usize, bytes: &mut [u8], at: usize)
     requires { ⌜ (from + count ≤ length (now source)) × (at + count ≤ length (now bytes)) ⌝ }
@@ -161,6 +200,21 @@ pub fn put_part(image: &[u8], h: Header, payload: u64, bytes: &mut [u8], at: usi
     put_from(image, part.from, part.count, bytes, at)
 }
 
+// Where the bytes of a text stand, the first `made` bytes having been built.
+pub fn sources_of(h: Header, made: usize, start: u32, len: u16) -> Sources
+    ensures { λ r. ⌜ Sourced h made start len r ⌝ }
+{
+    let first = image_span(h, start, len);
+    let built = past(h.text as usize, start as usize);
+    let second = span_of(made, built, len as usize - first.count);
+    Sources {
+        image_from: first.from,
+        image_count: first.count,
+        built_from: second.from,
+        built_count: second.count,
+    }
+}
+
 // Puts a text at `at`, the first `made` bytes having been built before.
 pub fn put_text(
     image: &[u8],
@@ -175,15 +229,18 @@ pub fn put_text(
     ensures end { λ r. ⌜ r ≡ endOf (now (bytes .entry)) at (poolText (now (image .entry)) h made (now (bytes .entry)) start len) ⌝ }
     ensures bytes { λ r. ⌜ now (bytes .exit) ≡ putOf (now (bytes .entry)) at (poolText (now (image .entry)) h made (now (bytes .entry)) start len) ⌝ }
 {
-    let first = image_span(h, start, len);
-    let built = past(h.text as usize, start as usize);
-    let second = span_of(made, built, len as usize - first.count);
-    let count = first.count + second.count;
+    let from = sources_of(h, made, start, len);
+    let count = from.image_count + from.built_count;
     if !has_room(bytes.len(), at, count) {
         return Put::NoRoom;
     }
-    copy_from(image, first.from, first.count, bytes, at);
-    copy_built(bytes, second.from, second.count, at + first.count);
+    copy_from(image, from.image_from, from.image_count, bytes, at);
+    copy_built(
+        bytes,
+        from.built_from,
+        from.built_count,
+        at + from.image_count,
+    );
     Put::End(at + count)
 }
 

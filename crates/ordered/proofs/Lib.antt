@@ -1,0 +1,4 @@
+pub mod Ascending
+pub mod OrderLaws
+pub mod EntryLaws
+pub mod WordLaws

@@ -1,0 +1,5 @@
+mod Steps
+mod Texts
+mod Items
+mod Entries
+mod Whole

@@ -1,0 +1,4 @@
+pub mod Bits
+pub mod Pouring
+pub mod Written
+pub mod Places
