@@ -1,0 +1,4 @@
+pub mod Demands
+mod RootLaws
+mod FinishLaws
+mod Clearing
