@@ -1,4 +1,6 @@
 // Fields of bit-packed bytes: any width up to 64 at any bit, the most significant bit first.
+#![tactic(auto)]
+
 ghost use Rattle.std.specs.Prelude.{◌≡◌, ltb, ◌+◌, ◌-◌, ◌*◌, ◌/◌, ◌%◌, ◌^◌, ◌≤◌, ◌<◌, length, get_or};
 ghost use Rattle.fields.specs.Field.{field_of, is_within, read_of, Put, Wrote, Mixed};
 

@@ -10,16 +10,16 @@ use Rattle.fields.proofs.field.Tie as tie
 within-requires : tie.Need-within-requires
 within-requires c κs = search rules
 
+returns-then-not-within : tie.Need-returns-then-not-within
+unfolding read_of
+returns-then-not-within c = rw (sym c.within.ensures ∙ not-true _ c.if-not-within.true-raw)
+
+field_at-requires : tie.Need-field_at-requires
+field_at-requires c κs = within_so _ _ _ (sym c.within.ensures ∙ not-false _ c.if-not-within.false-raw)
+
 returns : tie.Need-returns
 unfolding read_of
-returns c = rw (sym c.before.within.ensures ∙ not-true _ c.if1.true)
-
-field-at-requires : tie.Need-field-at-requires
-field-at-requires c κs = within_so _ _ _ (sym c.before.within.ensures ∙ not-false _ c.if1.false)
-
-returns-2 : tie.Need-returns-2
-unfolding read_of
-returns-2 c = rw (sym c.before.before.within.ensures ∙ not-false _ c.before.if1.false, c.field_at.ensures)
+returns c = rw (sym c.within.ensures ∙ not-false _ c.if-not-within.false-raw, c.field_at.ensures)
 
 pub field_spec : {M : Type 1} → statement M
-field_spec = tie.close (tie.spec within-requires returns field-at-requires returns-2)
+field_spec = tie.close (tie.spec within-requires returns-then-not-within field_at-requires returns)

@@ -5,25 +5,25 @@ use Rattle.fields.proofs.Laws.{join}
 use Rattle.fields.proofs.half_at.Statement.{statement}
 use Rattle.fields.proofs.half_at.Tie as tie
 
-pair-at-requires : tie.Need-pair-at-requires
-pair-at-requires c κs = search rules
+pair_at-requires : tie.Need-pair_at-requires
+pair_at-requires c κs = search rules
 
-mul-result : tie.Need-overflow-mul-result
-mul-result c = search rules
+overflow_mul-result : tie.Need-overflow_mul-result
+overflow_mul-result c = search rules
 
-add-pair-at : tie.Need-overflow-add-pair-at
-add-pair-at c = search rules
+overflow_add-at : tie.Need-overflow_add-at
+overflow_add-at c = search rules
 
-pair-at-requires-2 : tie.Need-pair-at-requires-2
-pair-at-requires-2 c κs = search rules
+pair_at-requires-2 : tie.Need-pair_at-requires-2
+pair_at-requires-2 c κs = search rules
 
-add-result : tie.Need-overflow-add-result
-add-result c = search rules
+overflow_add-result : tie.Need-overflow_add-result
+overflow_add-result c = search rules
 
 returns : tie.Need-returns
 returns c =
-    let a = c.before.before.before.args in
-    (join a.bytes.now a.at 2 16 _ _ c.before.pair-at.ensures.0 c.pair-at2.ensures.0, omega arith)
+    let a = c.args in
+    (join a.bytes.now a.at 2 16 _ _ c.pair_at.ensures.0 c.pair_at-2.ensures.0, omega arith)
 
 pub half_at_spec : {M : Type 1} → statement M
-half_at_spec = tie.close (tie.spec pair-at-requires mul-result add-pair-at pair-at-requires-2 add-result returns)
+half_at_spec = tie.close (tie.spec pair_at-requires overflow_mul-result overflow_add-at pair_at-requires-2 overflow_add-result returns)

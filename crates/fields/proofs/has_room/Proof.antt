@@ -19,19 +19,19 @@ nothing_past v w =
     lt-ltb v (2 ^ w) (subst (λ (n : ℕ). v < n) (one-mul (2 ^ w)) ((div-lt_iff_lt-mul (pow_pos w)).0 none)))
     (λ e. eq-eqb (v / 2 ^ w) 0 (div-eq_of_lt (ltb-true v (2 ^ w) e)))
 
-returns : tie.Need-returns
-returns c =
-    let a = c.before.args in
+returns-then-width-eq64 : tie.Need-returns-then-width-eq64
+returns-then-width-eq64 c =
+    let a = c.args in
     let all : a.value < 2 ^ 64 = search rules in
-    sym (rw c.if1.true (lt-ltb a.value (2 ^ 64) all))
+    sym (rw c.if-width-eq64.true (lt-ltb a.value (2 ^ 64) all))
 
 down-requires : tie.Need-down-requires
 down-requires c κs = search rules
 
-returns-2 : tie.Need-returns-2
-returns-2 c =
-    let a = c.before.before.args in
+returns : tie.Need-returns
+returns c =
+    let a = c.args in
     rw c.down.ensures (nothing_past a.value a.width)
 
 pub has_room_spec : {M : Type 1} → statement M
-has_room_spec = tie.close (tie.spec returns down-requires returns-2)
+has_room_spec = tie.close (tie.spec returns-then-width-eq64 down-requires returns)

@@ -7,14 +7,14 @@ use Rattle.fields.proofs.Laws.{one_up}
 use Rattle.fields.proofs.low.Statement.{statement}
 use Rattle.fields.proofs.low.Tie as tie
 
-shl-result : tie.Need-overflow-shl-result
-shl-result c = search rules
+overflow_shl-result : tie.Need-overflow_shl-result
+overflow_shl-result c = search rules
 
-rem-result : tie.Need-nonzero-rem-result
-rem-result c = subst (λ (n : ℕ). 0 < n) (sym (one_up c.args.k c.requires)) (pow_pos c.args.k)
+nonzero_rem-result : tie.Need-nonzero_rem-result
+nonzero_rem-result c = subst (λ (n : ℕ). 0 < n) (sym (one_up c.args.k c.requires)) (pow_pos c.args.k)
 
 returns : tie.Need-returns
 returns c = ap (λ (n : ℕ). c.args.x % n) (one_up c.args.k c.requires)
 
 pub low_spec : {M : Type 1} → statement M
-low_spec = tie.close (tie.spec shl-result rem-result returns)
+low_spec = tie.close (tie.spec overflow_shl-result nonzero_rem-result returns)

@@ -1,7 +1,7 @@
 -- `fields::more` meets its contract: the bits that are added are below the room made for them. Assumes nothing.
 use borrow.Author.Rules.{rules}
 use mathlib.Core.Path.{ap, ap₂, ◌∙◌}
-use Prim.Native.Nat.{ℕ, ◌+◌, ◌-◌, ◌/◌, ◌%◌, ◌^◌}
+use Prim.Native.Nat.{ℕ, ◌+◌, ◌/◌, ◌%◌, ◌^◌}
 use native.Mathlib.Nat.{mod-lt}
 use native.Mathlib.Omega.{arith}
 use lib.Pow.{pow_pos}
@@ -9,10 +9,10 @@ use Rattle.fields.proofs.more.Statement.{statement}
 use Rattle.fields.proofs.more.Tie as tie
 
 up-requires : tie.Need-up-requires
-up-requires c κs = omega (arith, pow_pos c.before.args.t)
+up-requires c κs = omega (arith, pow_pos c.args.t)
 
-shared-slice-read-wide : tie.Need-shared-slice-read-wide
-shared-slice-read-wide c = search rules
+bounds-bytes-k : tie.Need-bounds-bytes-k
+bounds-bytes-k c = search rules
 
 wide-requires : tie.Need-wide-requires
 wide-requires c κs = search rules
@@ -23,25 +23,25 @@ down-requires c κs = search rules
 low-requires : tie.Need-low-requires
 low-requires c κs = search rules
 
-add-result : tie.Need-overflow-add-result
-add-result c =
-    let t = c.before.before.before.before.before.before.args.t in
-    omega (arith, mod-lt c.before.down.result (pow_pos t))
+overflow_add-result : tie.Need-overflow_add-result
+overflow_add-result c =
+    let t = c.args.t in
+    omega (arith, mod-lt c.down.result (pow_pos t))
 
 returns : tie.Need-returns
 returns c =
-    let a = c.before.before.before.before.before.before.args in
-    ap₂ (λ (u v : ℕ). u + v) c.before.before.before.before.up.ensures
-    (c.low.ensures ∙ ap (λ (n : ℕ). n % 2 ^ a.t) (c.before.down.ensures ∙ ap (λ (n : ℕ). n / 2 ^ a.s) c.before.before.wide.ensures.0))
+    let a = c.args in
+    ap₂ (λ (u v : ℕ). u + v) c.up.ensures
+    (c.low.ensures ∙ ap (λ (n : ℕ). n % 2 ^ a.t) (c.down.ensures ∙ ap (λ (n : ℕ). n / 2 ^ a.s) c.wide.ensures.0))
 
 pub more_spec : {M : Type 1} → statement M
 more_spec =
     tie.close
     (tie.spec
     up-requires
-    shared-slice-read-wide
+    bounds-bytes-k
     wide-requires
     down-requires
     low-requires
-    add-result
+    overflow_add-result
     returns)

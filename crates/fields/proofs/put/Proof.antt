@@ -14,59 +14,59 @@ use Rattle.fields.proofs.put.Tie as tie
 within-requires : tie.Need-within-requires
 within-requires c κs = search rules
 
-same_length : tie.Need-same-length
-same_length c = search rules
+shape_of-out-then-not-within : tie.Need-shape_of-out-then-not-within
+shape_of-out-then-not-within c = search rules
 
 -- nothing is written where a test fails
 refused : (before : List ℕ) (bit width value : ℕ) → is_within before bit width && ltb value (2 ^ width) ≡ false → Wrote before before bit width value false
 refused before bit width value e = record { told = sym e; put = λ t. absurd (true≢false (sym t)); kept = λ _. refl }
 
-returns : tie.Need-returns
-returns c =
-    let a = c.before.before.before.before.args in
-    let out : is_within a.out.now a.bit a.width ≡ false = sym c.before.within.ensures ∙ not-true _ c.if1.true in
+returns-then-not-within : tie.Need-returns-then-not-within
+returns-then-not-within c =
+    let a = c.args in
+    let out : is_within a.out.now a.bit a.width ≡ false = sym c.within.ensures ∙ not-true _ c.if-not-within.true-raw in
     refused a.out.now a.bit a.width a.value (rw out)
 
-has-room-requires : tie.Need-has-room-requires
-has-room-requires c κs = (within_so _ _ _ (sym c.before.within.ensures ∙ not-false _ c.if1.false)).0
+has_room-requires : tie.Need-has_room-requires
+has_room-requires c κs = (within_so _ _ _ (sym c.within.ensures ∙ not-false _ c.if-not-within.false-raw)).0
 
-same-length-2 : tie.Need-same-length-2
-same-length-2 c = search rules
+shape_of-out-then-not-has_room : tie.Need-shape_of-out-then-not-has_room
+shape_of-out-then-not-has_room c = search rules
 
-returns-2 : tie.Need-returns-2
-returns-2 c =
+returns-then-not-has_room : tie.Need-returns-then-not-has_room
+returns-then-not-has_room c =
     let u = c.before.before in
-    let a = u.before.before.before.before.args in
-    let big : ltb a.value (2 ^ a.width) ≡ false = sym c.before.has_room.ensures ∙ not-true _ c.if2.true in
+    let a = u.args in
+    let big : ltb a.value (2 ^ a.width) ≡ false = sym c.has_room.ensures ∙ not-true _ c.if-not-has_room.true-raw in
     refused a.out.now a.bit a.width a.value (rw (big, and-false))
 
-put-at-requires : tie.Need-put-at-requires
-put-at-requires c κs =
+put_at-requires : tie.Need-put_at-requires
+put_at-requires c κs =
     let h = c.before.before in
-    let w = within_so _ _ _ (sym h.before.before.within.ensures ∙ not-false _ h.before.if1.false) in
-    (w.0, w.1, ltb-true _ _ (sym h.has_room.ensures ∙ not-false _ c.before.if2.false))
+    let w = within_so _ _ _ (sym h.within.ensures ∙ not-false _ h.if-not-within.false-raw) in
+    (w.0, w.1, ltb-true _ _ (sym h.has_room.ensures ∙ not-false _ c.if-not-has_room.false-raw))
 
-same-length-3 : tie.Need-same-length-3
-same-length-3 c = search rules
+shape_of-out : tie.Need-shape_of-out
+shape_of-out c = search rules
 
-returns-3 : tie.Need-returns-3
-returns-3 c =
+returns : tie.Need-returns
+returns c =
     let p = c.before.before in
     let h = p.before.before.before in
-    let w = sym h.before.before.within.ensures ∙ not-false _ h.before.if1.false in
-    let v = sym h.has_room.ensures ∙ not-false _ p.before.before.if2.false in
-    record { told = sym (rw (w, v)); put = λ _. p.put-at.ensures; kept = λ f. absurd (true≢false f) }
+    let w = sym h.within.ensures ∙ not-false _ h.if-not-within.false-raw in
+    let v = sym h.has_room.ensures ∙ not-false _ p.if-not-has_room.false-raw in
+    record { told = sym (rw (w, v)); put = λ _. p.put_at.ensures; kept = λ f. absurd (true≢false f) }
 
 pub put_spec : {M : Type 1} → statement M
 put_spec =
     tie.close
     (tie.spec
     within-requires
-    same_length
-    returns
-    has-room-requires
-    same-length-2
-    returns-2
-    put-at-requires
-    same-length-3
-    returns-3)
+    shape_of-out-then-not-within
+    returns-then-not-within
+    has_room-requires
+    shape_of-out-then-not-has_room
+    returns-then-not-has_room
+    put_at-requires
+    shape_of-out
+    returns)

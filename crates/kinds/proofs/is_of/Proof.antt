@@ -4,87 +4,87 @@ use borrow.Author.Rules.{rules}
 use Rattle.kinds.proofs.is_of.Statement.{statement}
 use Rattle.kinds.proofs.is_of.Tie as tie
 
-enum_told : tie.Need-enum-told
-enum_told c = search rules
+enum_told-1 : tie.Need-enum_told-1
+enum_told-1 c = search rules
 
-is-expression-requires : tie.Need-is-expression-requires
-is-expression-requires c κs = search rules
+is_expression-requires : tie.Need-is_expression-requires
+is_expression-requires c κs = search rules
 
-enum-told-2 : tie.Need-enum-told-2
-enum-told-2 c = search rules
+enum_told-in-Component : tie.Need-enum_told-in-Component
+enum_told-in-Component c = search rules
 
-is-expression-requires-2 : tie.Need-is-expression-requires-2
-is-expression-requires-2 c κs = search rules
+is_expression-requires-else-kind-eq17 : tie.Need-is_expression-requires-else-kind-eq17
+is_expression-requires-else-kind-eq17 c κs = search rules
 
-enum-told-3 : tie.Need-enum-told-3
-enum-told-3 c = search rules
+enum_told-in-Arm : tie.Need-enum_told-in-Arm
+enum_told-in-Arm c = search rules
 
-enum-told-4 : tie.Need-enum-told-4
-enum-told-4 c = search rules
+enum_told-in-Entry : tie.Need-enum_told-in-Entry
+enum_told-in-Entry c = search rules
 
-enum-told-5 : tie.Need-enum-told-5
-enum-told-5 c = search rules
+enum_told-in-Scope : tie.Need-enum_told-in-Scope
+enum_told-in-Scope c = search rules
 
-enum-told-6 : tie.Need-enum-told-6
-enum-told-6 c = search rules
+enum_told-in-Condition : tie.Need-enum_told-in-Condition
+enum_told-in-Condition c = search rules
 
-is-expression-requires-3 : tie.Need-is-expression-requires-3
-is-expression-requires-3 c κs = search rules
+is_expression-requires-else-kind-eq20 : tie.Need-is_expression-requires-else-kind-eq20
+is_expression-requires-else-kind-eq20 c κs = search rules
 
-enum-told-7 : tie.Need-enum-told-7
-enum-told-7 c = search rules
+enum_told-in-Target : tie.Need-enum_told-in-Target
+enum_told-in-Target c = search rules
 
-is-target-requires : tie.Need-is-target-requires
-is-target-requires c κs = search rules
+is_target-requires : tie.Need-is_target-requires
+is_target-requires c κs = search rules
 
-returns : tie.Need-returns
-returns c = rw c.before.enum_told.given.1 c.is-expression.ensures
+returns-in-Expression : tie.Need-returns-in-Expression
+returns-in-Expression c = rw c.in-Expression.is c.is_expression.ensures
 
-returns-2 : tie.Need-returns-2
-returns-2 c = rw (c.before.enum-told2.given.1, c.if1.true)
+returns-then-kind-eq17 : tie.Need-returns-then-kind-eq17
+returns-then-kind-eq17 c = rw (c.in-Component.is, c.if-kind-eq17.true)
 
-returns-3 : tie.Need-returns-3
-returns-3 c = rw (c.before.before.enum-told2.given.1, ne_eqb _ _ c.before.if1.false) c.is-expression2.ensures
+returns-else-kind-eq17 : tie.Need-returns-else-kind-eq17
+returns-else-kind-eq17 c = rw (c.in-Component.is, ne_eqb _ _ c.if-kind-eq17.false) c.is_expression-else-kind-eq17.ensures
 
-returns-4 : tie.Need-returns-4
-returns-4 c = rw c.enum-told3.given.1
+returns-in-Arm : tie.Need-returns-in-Arm
+returns-in-Arm c = rw c.in-Arm.is
 
-returns-5 : tie.Need-returns-5
-returns-5 c = rw c.enum-told4.given.1
+returns-in-Entry : tie.Need-returns-in-Entry
+returns-in-Entry c = rw c.in-Entry.is
 
-returns-6 : tie.Need-returns-6
-returns-6 c = rw c.enum-told5.given.1
+returns-in-Scope : tie.Need-returns-in-Scope
+returns-in-Scope c = rw c.in-Scope.is
 
-returns-7 : tie.Need-returns-7
-returns-7 c = rw (c.before.enum-told6.given.1, c.if2.true)
+returns-then-kind-eq20 : tie.Need-returns-then-kind-eq20
+returns-then-kind-eq20 c = rw (c.in-Condition.is, c.if-kind-eq20.true)
 
-returns-8 : tie.Need-returns-8
-returns-8 c = rw (c.before.before.enum-told6.given.1, ne_eqb _ _ c.before.if2.false) c.is-expression3.ensures
+returns-else-kind-eq20 : tie.Need-returns-else-kind-eq20
+returns-else-kind-eq20 c = rw (c.in-Condition.is, ne_eqb _ _ c.if-kind-eq20.false) c.is_expression-else-kind-eq20.ensures
 
-returns-9 : tie.Need-returns-9
-returns-9 c = rw c.before.enum-told7.given.1 c.is-target.ensures
+returns-in-Target : tie.Need-returns-in-Target
+returns-in-Target c = rw c.in-Target.is c.is_target.ensures
 
 pub is_of_spec : {M : Type 1} → statement M
 is_of_spec =
     tie.close
     (tie.spec
-    enum_told
-    is-expression-requires
-    enum-told-2
-    is-expression-requires-2
-    enum-told-3
-    enum-told-4
-    enum-told-5
-    enum-told-6
-    is-expression-requires-3
-    enum-told-7
-    is-target-requires
-    returns
-    returns-2
-    returns-3
-    returns-4
-    returns-5
-    returns-6
-    returns-7
-    returns-8
-    returns-9)
+    enum_told-1
+    is_expression-requires
+    enum_told-in-Component
+    is_expression-requires-else-kind-eq17
+    enum_told-in-Arm
+    enum_told-in-Entry
+    enum_told-in-Scope
+    enum_told-in-Condition
+    is_expression-requires-else-kind-eq20
+    enum_told-in-Target
+    is_target-requires
+    returns-in-Expression
+    returns-then-kind-eq17
+    returns-else-kind-eq17
+    returns-in-Arm
+    returns-in-Entry
+    returns-in-Scope
+    returns-then-kind-eq20
+    returns-else-kind-eq20
+    returns-in-Target)

@@ -19,219 +19,219 @@ no_line kind (no e) other = sym (get_or-eq_default table none (past 1 23 kind (o
 row-requires : tie.Need-row-requires
 row-requires c κs = search rules
 
-row-requires-2 : tie.Need-row-requires-2
-row-requires-2 c κs = search rules
+row-requires-in-2 : tie.Need-row-requires-in-2
+row-requires-in-2 c κs = search rules
 
-row-requires-3 : tie.Need-row-requires-3
-row-requires-3 c κs = search rules
+row-requires-in-3 : tie.Need-row-requires-in-3
+row-requires-in-3 c κs = search rules
 
-row-requires-4 : tie.Need-row-requires-4
-row-requires-4 c κs = search rules
+row-requires-in-4 : tie.Need-row-requires-in-4
+row-requires-in-4 c κs = search rules
 
-row-requires-5 : tie.Need-row-requires-5
-row-requires-5 c κs = search rules
+row-requires-in-5 : tie.Need-row-requires-in-5
+row-requires-in-5 c κs = search rules
 
-row-requires-6 : tie.Need-row-requires-6
-row-requires-6 c κs = search rules
+row-requires-in-6 : tie.Need-row-requires-in-6
+row-requires-in-6 c κs = search rules
 
-row-requires-7 : tie.Need-row-requires-7
-row-requires-7 c κs = search rules
+row-requires-in-7 : tie.Need-row-requires-in-7
+row-requires-in-7 c κs = search rules
 
-row-requires-8 : tie.Need-row-requires-8
-row-requires-8 c κs = search rules
+row-requires-in-8 : tie.Need-row-requires-in-8
+row-requires-in-8 c κs = search rules
 
-row-requires-9 : tie.Need-row-requires-9
-row-requires-9 c κs = search rules
+row-requires-in-9 : tie.Need-row-requires-in-9
+row-requires-in-9 c κs = search rules
 
-row-requires-10 : tie.Need-row-requires-10
-row-requires-10 c κs = search rules
+row-requires-in-10 : tie.Need-row-requires-in-10
+row-requires-in-10 c κs = search rules
 
-row-requires-11 : tie.Need-row-requires-11
-row-requires-11 c κs = search rules
+row-requires-in-11 : tie.Need-row-requires-in-11
+row-requires-in-11 c κs = search rules
 
-row-requires-12 : tie.Need-row-requires-12
-row-requires-12 c κs = search rules
+row-requires-in-12 : tie.Need-row-requires-in-12
+row-requires-in-12 c κs = search rules
 
-row-requires-13 : tie.Need-row-requires-13
-row-requires-13 c κs = search rules
+row-requires-in-13 : tie.Need-row-requires-in-13
+row-requires-in-13 c κs = search rules
 
-row-requires-14 : tie.Need-row-requires-14
-row-requires-14 c κs = search rules
+row-requires-in-14 : tie.Need-row-requires-in-14
+row-requires-in-14 c κs = search rules
 
-row-requires-15 : tie.Need-row-requires-15
-row-requires-15 c κs = search rules
+row-requires-in-15 : tie.Need-row-requires-in-15
+row-requires-in-15 c κs = search rules
 
-row-requires-16 : tie.Need-row-requires-16
-row-requires-16 c κs = search rules
+row-requires-in-16 : tie.Need-row-requires-in-16
+row-requires-in-16 c κs = search rules
 
-row-requires-17 : tie.Need-row-requires-17
-row-requires-17 c κs = search rules
+row-requires-in-17 : tie.Need-row-requires-in-17
+row-requires-in-17 c κs = search rules
 
-row-requires-18 : tie.Need-row-requires-18
-row-requires-18 c κs = search rules
+row-requires-in-18 : tie.Need-row-requires-in-18
+row-requires-in-18 c κs = search rules
 
-row-requires-19 : tie.Need-row-requires-19
-row-requires-19 c κs = search rules
+row-requires-in-19 : tie.Need-row-requires-in-19
+row-requires-in-19 c κs = search rules
 
-row-requires-20 : tie.Need-row-requires-20
-row-requires-20 c κs = search rules
+row-requires-in-20 : tie.Need-row-requires-in-20
+row-requires-in-20 c κs = search rules
 
-row-requires-21 : tie.Need-row-requires-21
-row-requires-21 c κs = search rules
+row-requires-in-21 : tie.Need-row-requires-in-21
+row-requires-in-21 c κs = search rules
 
-row-requires-22 : tie.Need-row-requires-22
-row-requires-22 c κs = search rules
+row-requires-in-22 : tie.Need-row-requires-in-22
+row-requires-in-22 c κs = search rules
 
-row-requires-23 : tie.Need-row-requires-23
-row-requires-23 c κs = search rules
+row-requires-in-23 : tie.Need-row-requires-in-23
+row-requires-in-23 c κs = search rules
 
-row-requires-24 : tie.Need-row-requires-24
-row-requires-24 c κs = search rules
+row-requires-in_default : tie.Need-row-requires-in_default
+row-requires-in_default c κs = search rules
 
-returns : tie.Need-returns
+returns-in-1 : tie.Need-returns-in-1
 unfolding row_of table
-returns c = rw c.before.match.keys1 c.row.ensures
+returns-in-1 c = rw c.in-1.is c.row.ensures
 
-returns-2 : tie.Need-returns-2
+returns-in-2 : tie.Need-returns-in-2
 unfolding row_of table
-returns-2 c = rw c.before.match.keys2 c.row2.ensures
+returns-in-2 c = rw c.in-2.is c.row-in-2.ensures
 
-returns-3 : tie.Need-returns-3
+returns-in-3 : tie.Need-returns-in-3
 unfolding row_of table
-returns-3 c = rw c.before.match.keys3 c.row3.ensures
+returns-in-3 c = rw c.in-3.is c.row-in-3.ensures
 
-returns-4 : tie.Need-returns-4
+returns-in-4 : tie.Need-returns-in-4
 unfolding row_of table
-returns-4 c = rw c.before.match.keys4 c.row4.ensures
+returns-in-4 c = rw c.in-4.is c.row-in-4.ensures
 
-returns-5 : tie.Need-returns-5
+returns-in-5 : tie.Need-returns-in-5
 unfolding row_of table
-returns-5 c = rw c.before.match.keys5 c.row5.ensures
+returns-in-5 c = rw c.in-5.is c.row-in-5.ensures
 
-returns-6 : tie.Need-returns-6
+returns-in-6 : tie.Need-returns-in-6
 unfolding row_of table
-returns-6 c = rw c.before.match.keys6 c.row6.ensures
+returns-in-6 c = rw c.in-6.is c.row-in-6.ensures
 
-returns-7 : tie.Need-returns-7
+returns-in-7 : tie.Need-returns-in-7
 unfolding row_of table
-returns-7 c = rw c.before.match.keys7 c.row7.ensures
+returns-in-7 c = rw c.in-7.is c.row-in-7.ensures
 
-returns-8 : tie.Need-returns-8
+returns-in-8 : tie.Need-returns-in-8
 unfolding row_of table
-returns-8 c = rw c.before.match.keys8 c.row8.ensures
+returns-in-8 c = rw c.in-8.is c.row-in-8.ensures
 
-returns-9 : tie.Need-returns-9
+returns-in-9 : tie.Need-returns-in-9
 unfolding row_of table
-returns-9 c = rw c.before.match.keys9 c.row9.ensures
+returns-in-9 c = rw c.in-9.is c.row-in-9.ensures
 
-returns-10 : tie.Need-returns-10
+returns-in-10 : tie.Need-returns-in-10
 unfolding row_of table
-returns-10 c = rw c.before.match.keys10 c.row10.ensures
+returns-in-10 c = rw c.in-10.is c.row-in-10.ensures
 
-returns-11 : tie.Need-returns-11
+returns-in-11 : tie.Need-returns-in-11
 unfolding row_of table
-returns-11 c = rw c.before.match.keys11 c.row11.ensures
+returns-in-11 c = rw c.in-11.is c.row-in-11.ensures
 
-returns-12 : tie.Need-returns-12
+returns-in-12 : tie.Need-returns-in-12
 unfolding row_of table
-returns-12 c = rw c.before.match.keys12 c.row12.ensures
+returns-in-12 c = rw c.in-12.is c.row-in-12.ensures
 
-returns-13 : tie.Need-returns-13
+returns-in-13 : tie.Need-returns-in-13
 unfolding row_of table
-returns-13 c = rw c.before.match.keys13 c.row13.ensures
+returns-in-13 c = rw c.in-13.is c.row-in-13.ensures
 
-returns-14 : tie.Need-returns-14
+returns-in-14 : tie.Need-returns-in-14
 unfolding row_of table
-returns-14 c = rw c.before.match.keys14 c.row14.ensures
+returns-in-14 c = rw c.in-14.is c.row-in-14.ensures
 
-returns-15 : tie.Need-returns-15
+returns-in-15 : tie.Need-returns-in-15
 unfolding row_of table
-returns-15 c = rw c.before.match.keys15 c.row15.ensures
+returns-in-15 c = rw c.in-15.is c.row-in-15.ensures
 
-returns-16 : tie.Need-returns-16
+returns-in-16 : tie.Need-returns-in-16
 unfolding row_of table
-returns-16 c = rw c.before.match.keys16 c.row16.ensures
+returns-in-16 c = rw c.in-16.is c.row-in-16.ensures
 
-returns-17 : tie.Need-returns-17
+returns-in-17 : tie.Need-returns-in-17
 unfolding row_of table
-returns-17 c = rw c.before.match.keys17 c.row17.ensures
+returns-in-17 c = rw c.in-17.is c.row-in-17.ensures
 
-returns-18 : tie.Need-returns-18
+returns-in-18 : tie.Need-returns-in-18
 unfolding row_of table
-returns-18 c = rw c.before.match.keys18 c.row18.ensures
+returns-in-18 c = rw c.in-18.is c.row-in-18.ensures
 
-returns-19 : tie.Need-returns-19
+returns-in-19 : tie.Need-returns-in-19
 unfolding row_of table
-returns-19 c = rw c.before.match.keys19 c.row19.ensures
+returns-in-19 c = rw c.in-19.is c.row-in-19.ensures
 
-returns-20 : tie.Need-returns-20
+returns-in-20 : tie.Need-returns-in-20
 unfolding row_of table
-returns-20 c = rw c.before.match.keys20 c.row20.ensures
+returns-in-20 c = rw c.in-20.is c.row-in-20.ensures
 
-returns-21 : tie.Need-returns-21
+returns-in-21 : tie.Need-returns-in-21
 unfolding row_of table
-returns-21 c = rw c.before.match.keys21 c.row21.ensures
+returns-in-21 c = rw c.in-21.is c.row-in-21.ensures
 
-returns-22 : tie.Need-returns-22
+returns-in-22 : tie.Need-returns-in-22
 unfolding row_of table
-returns-22 c = rw c.before.match.keys22 c.row22.ensures
+returns-in-22 c = rw c.in-22.is c.row-in-22.ensures
 
-returns-23 : tie.Need-returns-23
+returns-in-23 : tie.Need-returns-in-23
 unfolding row_of table
-returns-23 c = rw c.before.match.keys23 c.row23.ensures
+returns-in-23 c = rw c.in-23.is c.row-in-23.ensures
 
-returns-24 : tie.Need-returns-24
-returns-24 c = c.row24.ensures ∙ no_line c.before.before.args.kind (ℕ_discrete c.before.before.args.kind 0) c.before.match.rest
+returns-in_default : tie.Need-returns-in_default
+returns-in_default c = c.row-in_default.ensures ∙ no_line c.args.kind (ℕ_discrete c.args.kind 0) c.in_default.in_default-own.rest
 
 pub row_of_spec : {M : Type 1} → statement M
 row_of_spec =
     tie.close
     (tie.spec
     row-requires
-    row-requires-2
-    row-requires-3
-    row-requires-4
-    row-requires-5
-    row-requires-6
-    row-requires-7
-    row-requires-8
-    row-requires-9
-    row-requires-10
-    row-requires-11
-    row-requires-12
-    row-requires-13
-    row-requires-14
-    row-requires-15
-    row-requires-16
-    row-requires-17
-    row-requires-18
-    row-requires-19
-    row-requires-20
-    row-requires-21
-    row-requires-22
-    row-requires-23
-    row-requires-24
-    returns
-    returns-2
-    returns-3
-    returns-4
-    returns-5
-    returns-6
-    returns-7
-    returns-8
-    returns-9
-    returns-10
-    returns-11
-    returns-12
-    returns-13
-    returns-14
-    returns-15
-    returns-16
-    returns-17
-    returns-18
-    returns-19
-    returns-20
-    returns-21
-    returns-22
-    returns-23
-    returns-24)
+    row-requires-in-2
+    row-requires-in-3
+    row-requires-in-4
+    row-requires-in-5
+    row-requires-in-6
+    row-requires-in-7
+    row-requires-in-8
+    row-requires-in-9
+    row-requires-in-10
+    row-requires-in-11
+    row-requires-in-12
+    row-requires-in-13
+    row-requires-in-14
+    row-requires-in-15
+    row-requires-in-16
+    row-requires-in-17
+    row-requires-in-18
+    row-requires-in-19
+    row-requires-in-20
+    row-requires-in-21
+    row-requires-in-22
+    row-requires-in-23
+    row-requires-in_default
+    returns-in-1
+    returns-in-2
+    returns-in-3
+    returns-in-4
+    returns-in-5
+    returns-in-6
+    returns-in-7
+    returns-in-8
+    returns-in-9
+    returns-in-10
+    returns-in-11
+    returns-in-12
+    returns-in-13
+    returns-in-14
+    returns-in-15
+    returns-in-16
+    returns-in-17
+    returns-in-18
+    returns-in-19
+    returns-in-20
+    returns-in-21
+    returns-in-22
+    returns-in-23
+    returns-in_default)

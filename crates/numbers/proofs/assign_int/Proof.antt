@@ -6,70 +6,70 @@ use Rattle.numbers.specs.Ints.{assign_of}
 use Rattle.numbers.proofs.assign_int.Statement.{statement}
 use Rattle.numbers.proofs.assign_int.Tie as tie
 
-checked-add-requires : tie.Need-checked-add-requires
-checked-add-requires c κs = search rules
+checked_add-requires : tie.Need-checked_add-requires
+checked_add-requires c κs = search rules
 
-checked-sub-requires : tie.Need-checked-sub-requires
-checked-sub-requires c κs = search rules
+checked_sub-requires : tie.Need-checked_sub-requires
+checked_sub-requires c κs = search rules
 
-checked-mul-requires : tie.Need-checked-mul-requires
-checked-mul-requires c κs = search rules
+checked_mul-requires : tie.Need-checked_mul-requires
+checked_mul-requires c κs = search rules
 
-checked-div-requires : tie.Need-checked-div-requires
-checked-div-requires c κs = search rules
+checked_div-requires : tie.Need-checked_div-requires
+checked_div-requires c κs = search rules
 
-checked-shl-requires : tie.Need-checked-shl-requires
-checked-shl-requires c κs = search rules
+checked_shl-requires : tie.Need-checked_shl-requires
+checked_shl-requires c κs = search rules
 
-checked-shr-requires : tie.Need-checked-shr-requires
-checked-shr-requires c κs = search rules
+checked_shr-requires : tie.Need-checked_shr-requires
+checked_shr-requires c κs = search rules
 
-returns : tie.Need-returns
+returns-in-0 : tie.Need-returns-in-0
 unfolding assign_of
-returns c =
-    let f = c.before.before.ranges in
-    rw c.before.match.keys1 (rw (to_z-of_z f.target, to_z-of_z f.operand) at c.checked-add.ensures)
+returns-in-0 c =
+    let f = c.ranges in
+    rw c.in-0.is (rw (to_z-of_z f.target, to_z-of_z f.operand) at c.checked_add.ensures)
 
-returns-2 : tie.Need-returns-2
+returns-in-1 : tie.Need-returns-in-1
 unfolding assign_of
-returns-2 c =
-    let f = c.before.before.ranges in
-    rw c.before.match.keys2 (rw (to_z-of_z f.target, to_z-of_z f.operand) at c.checked-sub.ensures)
+returns-in-1 c =
+    let f = c.ranges in
+    rw c.in-1.is (rw (to_z-of_z f.target, to_z-of_z f.operand) at c.checked_sub.ensures)
 
-returns-3 : tie.Need-returns-3
+returns-in-2 : tie.Need-returns-in-2
 unfolding assign_of
-returns-3 c =
-    let f = c.before.before.ranges in
-    rw c.before.match.keys3 (rw (to_z-of_z f.target, to_z-of_z f.operand) at c.checked-mul.ensures)
+returns-in-2 c =
+    let f = c.ranges in
+    rw c.in-2.is (rw (to_z-of_z f.target, to_z-of_z f.operand) at c.checked_mul.ensures)
 
-returns-4 : tie.Need-returns-4
+returns-in-3 : tie.Need-returns-in-3
 unfolding assign_of
-returns-4 c =
-    let f = c.before.before.ranges in
-    rw c.before.match.keys4 (rw (to_z-of_z f.target, to_z-of_z f.operand) at c.checked-div.ensures)
+returns-in-3 c =
+    let f = c.ranges in
+    rw c.in-3.is (rw (to_z-of_z f.target, to_z-of_z f.operand) at c.checked_div.ensures)
 
-returns-5 : tie.Need-returns-5
+returns-in-4 : tie.Need-returns-in-4
 unfolding assign_of
-returns-5 c =
-    let f = c.before.before.ranges in
-    rw c.before.match.keys5 (rw (to_z-of_z f.target, to_z-of_z f.operand) at c.checked-shl.ensures)
+returns-in-4 c =
+    let f = c.ranges in
+    rw c.in-4.is (rw (to_z-of_z f.target, to_z-of_z f.operand) at c.checked_shl.ensures)
 
-returns-6 : tie.Need-returns-6
+returns-in-5 : tie.Need-returns-in-5
 unfolding assign_of
-returns-6 c =
-    let f = c.before.before.ranges in
-    rw c.before.match.keys6 (rw (to_z-of_z f.target, to_z-of_z f.operand) at c.checked-shr.ensures)
+returns-in-5 c =
+    let f = c.ranges in
+    rw c.in-5.is (rw (to_z-of_z f.target, to_z-of_z f.operand) at c.checked_shr.ensures)
 
-returns-7 : tie.Need-returns-7
+returns-in_default : tie.Need-returns-in_default
 unfolding assign_of
-returns-7 c =
-    let op = c.before.args.op in
-    let r = c.match.rest in
+returns-in_default c =
+    let op = c.args.op in
+    let r = c.in_default.in_default-own.rest in
     rw (ne_eqb op 0 r.0.0.0.0.0.1, ne_eqb op 1 r.0.0.0.0.1, ne_eqb op 2 r.0.0.0.1, ne_eqb op 3 r.0.0.1, ne_eqb op 4 r.0.1, ne_eqb op 5 r.1)
 
 pub assign_int_spec : {M : Type 1} → statement M
 assign_int_spec =
     tie.close
     (tie.spec
-    checked-add-requires checked-sub-requires checked-mul-requires checked-div-requires checked-shl-requires checked-shr-requires
-    returns returns-2 returns-3 returns-4 returns-5 returns-6 returns-7)
+    checked_add-requires checked_sub-requires checked_mul-requires checked_div-requires checked_shl-requires checked_shr-requires
+    returns-in-0 returns-in-1 returns-in-2 returns-in-3 returns-in-4 returns-in-5 returns-in_default)

@@ -5,66 +5,66 @@ use Rattle.numbers.specs.Floats.{binary_float_of}
 use Rattle.numbers.proofs.binary_float.Statement.{statement}
 use Rattle.numbers.proofs.binary_float.Tie as tie
 
-returns : tie.Need-returns
+returns-in-0 : tie.Need-returns-in-0
 unfolding binary_float_of
-returns c = rw c.match.keys1
+returns-in-0 c = rw c.in-0.is
 
-returns-2 : tie.Need-returns-2
+returns-in-1 : tie.Need-returns-in-1
 unfolding binary_float_of
-returns-2 c = rw c.match.keys2
+returns-in-1 c = rw c.in-1.is
 
-returns-3 : tie.Need-returns-3
+returns-in-2 : tie.Need-returns-in-2
 unfolding binary_float_of
-returns-3 c = rw c.match.keys3
+returns-in-2 c = rw c.in-2.is
 
-returns-4 : tie.Need-returns-4
+returns-in-3 : tie.Need-returns-in-3
 unfolding binary_float_of
-returns-4 c = rw c.match.keys4
+returns-in-3 c = rw c.in-3.is
 
-returns-5 : tie.Need-returns-5
+returns-in-6 : tie.Need-returns-in-6
 unfolding binary_float_of
-returns-5 c = rw c.match.keys5
+returns-in-6 c = rw c.in-6.is
 
-returns-6 : tie.Need-returns-6
+returns-in-7 : tie.Need-returns-in-7
 unfolding binary_float_of
-returns-6 c = rw c.match.keys6
+returns-in-7 c = rw c.in-7.is
 
-returns-7 : tie.Need-returns-7
+returns-in-8 : tie.Need-returns-in-8
 unfolding binary_float_of
-returns-7 c = rw c.match.keys7
+returns-in-8 c = rw c.in-8.is
 
-returns-8 : tie.Need-returns-8
+returns-in-9 : tie.Need-returns-in-9
 unfolding binary_float_of
-returns-8 c = rw c.match.keys8
+returns-in-9 c = rw c.in-9.is
 
-returns-9 : tie.Need-returns-9
+returns-in-10 : tie.Need-returns-in-10
 unfolding binary_float_of
-returns-9 c = rw c.match.keys9
+returns-in-10 c = rw c.in-10.is
 
-returns-10 : tie.Need-returns-10
+returns-in-4 : tie.Need-returns-in-4
 unfolding binary_float_of
-returns-10 c =
-    let op = c.before.before.args.op in
-    let r = c.before.match.rest in
+returns-in-4 c =
+    let op = c.args.op in
+    let r = c.in-4.in_default-own.rest in
     rw (
       ne_eqb op 0 r.0.0.0.0.0.0.0.0.1,
       ne_eqb op 1 r.0.0.0.0.0.0.0.1,
       ne_eqb op 2 r.0.0.0.0.0.0.1,
       ne_eqb op 3 r.0.0.0.0.0.1,
-      le-leb op 5 (omega (arith, c.if1.true)),
+      le-leb op 5 (omega (arith, c.in-4.if-op-lt6-own.true)),
     )
 
-returns-11 : tie.Need-returns-11
+returns-in_default : tie.Need-returns-in_default
 unfolding binary_float_of
-returns-11 c =
-    let op = c.before.before.args.op in
-    let r = c.before.match.rest in
+returns-in_default c =
+    let op = c.args.op in
+    let r = c.in_default.in_default-own.rest in
     rw (
       ne_eqb op 0 r.0.0.0.0.0.0.0.0.1,
       ne_eqb op 1 r.0.0.0.0.0.0.0.1,
       ne_eqb op 2 r.0.0.0.0.0.0.1,
       ne_eqb op 3 r.0.0.0.0.0.1,
-      lt-leb op 5 c.if1.false,
+      lt-leb op 5 c.in_default.if-op-lt6-own.false,
       ne_eqb op 6 r.0.0.0.0.1,
       ne_eqb op 7 r.0.0.0.1,
       ne_eqb op 8 r.0.0.1,
@@ -73,4 +73,4 @@ returns-11 c =
     )
 
 pub binary_float_spec : {M : Type 1} → statement M
-binary_float_spec = tie.close (tie.spec returns returns-2 returns-3 returns-4 returns-5 returns-6 returns-7 returns-8 returns-9 returns-10 returns-11)
+binary_float_spec = tie.close (tie.spec returns-in-0 returns-in-1 returns-in-2 returns-in-3 returns-in-6 returns-in-7 returns-in-8 returns-in-9 returns-in-10 returns-in-4 returns-in_default)

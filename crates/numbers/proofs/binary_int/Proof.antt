@@ -8,48 +8,46 @@ use Rattle.numbers.proofs.IntLaws.{same_test}
 use Rattle.numbers.proofs.binary_int.Statement.{statement}
 use Rattle.numbers.proofs.binary_int.Tie as tie
 
-assign-int-requires : tie.Need-assign-int-requires
-assign-int-requires c κs = search rules
+assign_int-requires : tie.Need-assign_int-requires
+assign_int-requires c κs = search rules
 
 signed-requires : tie.Need-signed-requires
 signed-requires c κs = search rules
 
-returns : tie.Need-returns
+returns-in-6 : tie.Need-returns-in-6
 unfolding binary_int_of
-returns c = rw (c.match.keys1, to_z-of_z c.before.ranges.x, to_z-of_z c.before.ranges.y)
+returns-in-6 c = rw (c.in-6.is, to_z-of_z c.ranges.x, to_z-of_z c.ranges.y)
 
-returns-2 : tie.Need-returns-2
+returns-in-7 : tie.Need-returns-in-7
 unfolding binary_int_of
-returns-2 c = rw (c.match.keys2, to_z-of_z c.before.ranges.x, to_z-of_z c.before.ranges.y)
+returns-in-7 c = rw (c.in-7.is, to_z-of_z c.ranges.x, to_z-of_z c.ranges.y)
 
-returns-3 : tie.Need-returns-3
+returns-in-8 : tie.Need-returns-in-8
 unfolding binary_int_of
-returns-3 c =
-    let s = c.before in
-    rw (c.match.keys3, same_test s.args.x s.args.y s.ranges.x s.ranges.y)
+returns-in-8 c =
+    rw (c.in-8.is, same_test c.args.x c.args.y c.ranges.x c.ranges.y)
 
-returns-4 : tie.Need-returns-4
+returns-in-9 : tie.Need-returns-in-9
 unfolding binary_int_of
-returns-4 c = rw (c.match.keys4, to_z-of_z c.before.ranges.x, to_z-of_z c.before.ranges.y)
+returns-in-9 c = rw (c.in-9.is, to_z-of_z c.ranges.x, to_z-of_z c.ranges.y)
 
-returns-5 : tie.Need-returns-5
+returns-in-10 : tie.Need-returns-in-10
 unfolding binary_int_of
-returns-5 c = rw (c.match.keys5, to_z-of_z c.before.ranges.x, to_z-of_z c.before.ranges.y)
+returns-in-10 c = rw (c.in-10.is, to_z-of_z c.ranges.x, to_z-of_z c.ranges.y)
 
-returns-6 : tie.Need-returns-6
+returns-in-0-to-5 : tie.Need-returns-in-0-to-5
 unfolding binary_int_of
-returns-6 c =
-    let s = c.before.before.before.before in
-    rw (le-leb s.args.op 5 (omega (arith, c.before.before.if1.true)), c.signed.ensures, c.before.assign-int.ensures, to_z-of_z s.ranges.x, to_z-of_z s.ranges.y)
+returns-in-0-to-5 c =
+    rw (le-leb c.args.op 5 (omega (arith, c.in-0-to-5.if-op-lt6-own.true)), c.signed.ensures, c.assign_int.ensures, to_z-of_z c.ranges.x, to_z-of_z c.ranges.y)
 
-returns-7 : tie.Need-returns-7
+returns-in_default : tie.Need-returns-in_default
 unfolding binary_int_of
-returns-7 c =
-    let op = c.before.before.args.op in
-    let r = c.before.match.rest in
-    rw (lt-leb op 5 c.if1.false, ne_eqb op 6 r.0.0.0.0.1, ne_eqb op 7 r.0.0.0.1, ne_eqb op 8 r.0.0.1, ne_eqb op 9 r.0.1, ne_eqb op 10 r.1)
+returns-in_default c =
+    let op = c.args.op in
+    let r = c.in_default.in_default-own.rest in
+    rw (lt-leb op 5 c.in_default.if-op-lt6-own.false, ne_eqb op 6 r.0.0.0.0.1, ne_eqb op 7 r.0.0.0.1, ne_eqb op 8 r.0.0.1, ne_eqb op 9 r.0.1, ne_eqb op 10 r.1)
 
 pub binary_int_spec : {M : Type 1} → statement M
 binary_int_spec =
     tie.close
-    (tie.spec assign-int-requires signed-requires returns returns-2 returns-3 returns-4 returns-5 returns-6 returns-7)
+    (tie.spec assign_int-requires signed-requires returns-in-6 returns-in-7 returns-in-8 returns-in-9 returns-in-10 returns-in-0-to-5 returns-in_default)

@@ -6,25 +6,25 @@ use borrow.Author.Rules.{rules}
 use Rattle.numbers.proofs.signed.Statement.{statement}
 use Rattle.numbers.proofs.signed.Tie as tie
 
-enum-known-a : tie.Need-enum-known-a
-enum-known-a c = search rules
+enum_known-a : tie.Need-enum_known-a
+enum_known-a c = search rules
 
-enum-known-a-2 : tie.Need-enum-known-a-2
-enum-known-a-2 c = search rules
+enum_known-a-in-Refused-1 : tie.Need-enum_known-a-in-Refused-1
+enum_known-a-in-Refused-1 c = search rules
 
-enum_told : tie.Need-enum-told
-enum_told c = search rules
+enum_told-1 : tie.Need-enum_told-1
+enum_told-1 c = search rules
 
-returns : tie.Need-returns
-returns c =
-    let f : SFits w64 c.before.a.given.0.0 = search rules in
-    rw (c.before.a.given.1, to_z-of_z f)
+returns-in-Value : tie.Need-returns-in-Value
+returns-in-Value c =
+    let f : SFits w64 c.in-Value.z = search rules in
+    rw (c.in-Value.is, to_z-of_z f)
 
-returns-2 : tie.Need-returns-2
-returns-2 c = rw c.before.a2.given.1
+returns-in-Refused : tie.Need-returns-in-Refused
+returns-in-Refused c = rw c.in-Refused.is
 
-returns-3 : tie.Need-returns-3
-returns-3 c = search rules
+returns-in-Unlisted : tie.Need-returns-in-Unlisted
+returns-in-Unlisted c = search rules
 
 pub signed_spec : {M : Type 1} → statement M
-signed_spec = tie.close (tie.spec enum-known-a enum-known-a-2 enum_told returns returns-2 returns-3)
+signed_spec = tie.close (tie.spec enum_known-a enum_known-a-in-Refused-1 enum_told-1 returns-in-Value returns-in-Refused returns-in-Unlisted)

@@ -4,47 +4,47 @@ use native.Mathlib.Omega.{arith}
 use Rattle.utf8.proofs.after_tails.Statement.{statement}
 use Rattle.utf8.proofs.after_tails.Tie as tie
 
-abbrev invariant-loop : tie.invariant-loop
-invariant-loop bytes start at₀ at = at ≤ start + 3
+abbrev invariant-loop-at : tie.invariant-loop-at
+invariant-loop-at bytes start at₀ at = at ≤ start + 3
 
-abbrev decreases-loop : tie.decreases-loop
-decreases-loop bytes start at₀ at = start + 3 - at
+abbrev decreases-loop-at : tie.decreases-loop-at
+decreases-loop-at bytes start at₀ at = start + 3 - at
 
-loop-holds : tie.Need-loop-init invariant-loop decreases-loop
-loop-holds c = omega arith
+loop-at-init : tie.Need-loop-at-init invariant-loop-at decreases-loop-at
+loop-at-init c = omega arith
 
-add-loop : tie.Need-overflow-add-loop invariant-loop decreases-loop
-add-loop c = omega arith
+overflow_add-start : tie.Need-overflow_add-start invariant-loop-at decreases-loop-at
+overflow_add-start c = omega arith
 
-in-range-requires : tie.Need-in-range-requires invariant-loop decreases-loop
-in-range-requires c κs = tt
+in_range-requires : tie.Need-in_range-requires invariant-loop-at decreases-loop-at
+in_range-requires c κs = tt
 
-add_at : tie.Need-overflow-add-at invariant-loop decreases-loop
-add_at c = omega arith
+overflow_add-at : tie.Need-overflow_add-at invariant-loop-at decreases-loop-at
+overflow_add-at c = omega arith
 
-loop-less : tie.Need-loop-smaller invariant-loop decreases-loop
-loop-less c = omega arith
+loop-at-smaller : tie.Need-loop-at-smaller invariant-loop-at decreases-loop-at
+loop-at-smaller c = omega arith
 
-loop-again : tie.Need-loop-preserved invariant-loop decreases-loop
-loop-again c = omega arith
+loop-at-preserved : tie.Need-loop-at-preserved invariant-loop-at decreases-loop-at
+loop-at-preserved c = omega arith
 
-returns : tie.Need-returns invariant-loop decreases-loop
-returns c = omega arith
+returns-else-in_range : tie.Need-returns-else-in_range invariant-loop-at decreases-loop-at
+returns-else-in_range c = omega arith
 
-returns-2 : tie.Need-returns-2 invariant-loop decreases-loop
-returns-2 c = omega arith
+returns-after-loop-at : tie.Need-returns-after-loop-at invariant-loop-at decreases-loop-at
+returns-after-loop-at c = omega arith
 
 pub after_tails_spec : {M : Type 1} → statement M
 after_tails_spec =
     tie.close
     (tie.spec
-    invariant-loop
-    decreases-loop
-    loop-holds
-    add-loop
-    in-range-requires
-    add_at
-    loop-less
-    loop-again
-    returns
-    returns-2)
+    invariant-loop-at
+    decreases-loop-at
+    loop-at-init
+    overflow_add-start
+    in_range-requires
+    overflow_add-at
+    loop-at-smaller
+    loop-at-preserved
+    returns-else-in_range
+    returns-after-loop-at)

@@ -12,66 +12,64 @@ use Rattle.utf8.proofs.Leads.{len_from, lead_read, next_read, next_wrong, all_re
 use Rattle.utf8.proofs.char_len.Statement.{statement}
 use Rattle.utf8.proofs.char_len.Tie as tie
 
-abbrev invariant-loop : tie.invariant-loop
-invariant-loop bytes at len low₀ high₀ read₀ low high read =
+abbrev invariant-loop-read : tie.invariant-loop-read
+invariant-loop-read bytes at len low₀ high₀ read₀ low high read =
     (at + read ≤ length bytes) × (char_len (drop at bytes) ≡ len_from bytes at len read (low, high))
 
-abbrev decreases-loop : tie.decreases-loop
-decreases-loop bytes at len low₀ high₀ read₀ low high read = len - read
+abbrev decreases-loop-read : tie.decreases-loop-read
+decreases-loop-read bytes at len low₀ high₀ read₀ low high read = len - read
 
-shared-slice-read-lead-of : tie.Need-shared-slice-read-lead-of invariant-loop decreases-loop
-shared-slice-read-lead-of c = omega arith
+bounds-bytes-at : tie.Need-bounds-bytes-at invariant-loop-read decreases-loop-read
+bounds-bytes-at c = omega arith
 
-lead-of-requires : tie.Need-lead-of-requires invariant-loop decreases-loop
-lead-of-requires c κs = tt
+lead_of-len-requires : tie.Need-lead_of-len-requires invariant-loop-read decreases-loop-read
+lead_of-len-requires c κs = tt
 
-loop-holds : tie.Need-loop-init invariant-loop decreases-loop
-loop-holds c = (omega arith, lead_read _ _ c.before.before.before.requires c.lead-of.ensures)
+loop-read-init : tie.Need-loop-read-init invariant-loop-read decreases-loop-read
+loop-read-init c = (omega arith, lead_read _ _ c.requires c.lead_of-len.ensures)
 
-add-in-range : tie.Need-overflow-add-in-range invariant-loop decreases-loop
-add-in-range c = omega arith
+overflow_add-at : tie.Need-overflow_add-at invariant-loop-read decreases-loop-read
+overflow_add-at c = omega arith
 
-in-range-requires : tie.Need-in-range-requires invariant-loop decreases-loop
-in-range-requires c κs = tt
+in_range-requires : tie.Need-in_range-requires invariant-loop-read decreases-loop-read
+in_range-requires c κs = tt
 
-returns : tie.Need-returns invariant-loop decreases-loop
-returns c =
-    let l = c.before.before.before in
-    let s : false ≡ c.before.in-range.result = sym (not-true _ c.if1.true) in
-    sym (l.loop.invariant.1 ∙ next_wrong _ _ _ _ _ c.before.before.loop-test.true (s ∙ c.before.in-range.ensures))
+returns-then-not-in_range : tie.Need-returns-then-not-in_range invariant-loop-read decreases-loop-read
+returns-then-not-in_range c =
+    let s : false ≡ c.in_range.result = sym (not-true _ c.if-not-in_range.true-raw) in
+    sym (c.loop-read.invariant.1 ∙ next_wrong _ _ _ _ _ c.loop-read-test.true (s ∙ c.in_range.ensures))
 
-add_read : tie.Need-overflow-add-read invariant-loop decreases-loop
-add_read c = omega arith
+overflow_add-read : tie.Need-overflow_add-read invariant-loop-read decreases-loop-read
+overflow_add-read c = omega arith
 
-loop-less : tie.Need-loop-smaller invariant-loop decreases-loop
-loop-less c = omega arith
+loop-read-smaller : tie.Need-loop-read-smaller invariant-loop-read decreases-loop-read
+loop-read-smaller c = omega arith
 
-loop-again : tie.Need-loop-preserved invariant-loop decreases-loop
-loop-again c =
-    let l = c.before.before.before in
-    let a = l.before.before.before.before.args in
-    let t : true ≡ c.before.in-range.result = sym (not-false _ c.if1.false) in
-    let s = t ∙ c.before.in-range.ensures in (
-      omega (arith, starts_long _ _ (sym s), length-drop (a.at + l.loop.read) a.bytes.now),
-      l.loop.invariant.1 ∙ next_read _ _ _ _ _ c.before.before.loop-test.true s,
+loop-read-preserved : tie.Need-loop-read-preserved invariant-loop-read decreases-loop-read
+loop-read-preserved c =
+    let a = c.args in
+    let t : true ≡ c.in_range.result = sym (not-false _ c.if-not-in_range.false-raw) in
+    let s = t ∙ c.in_range.ensures in (
+      omega (arith, starts_long _ _ (sym s), length-drop (a.at + c.loop-read.read) a.bytes.now),
+      c.loop-read.invariant.1 ∙ next_read _ _ _ _ _ c.loop-read-test.true s,
     )
 
-returns-2 : tie.Need-returns-2 invariant-loop decreases-loop
-returns-2 c = sym (c.before.loop.invariant.1 ∙ all_read _ _ _ _ _ c.loop-test.false)
+returns : tie.Need-returns invariant-loop-read decreases-loop-read
+returns c = sym (c.loop-read.invariant.1 ∙ all_read _ _ _ _ _ c.loop-read-test.false)
 
 pub char_len_spec : {M : Type 1} → statement M
 char_len_spec =
     tie.close
     (tie.spec
-    invariant-loop
-    decreases-loop
-    shared-slice-read-lead-of
-    lead-of-requires
-    loop-holds
-    add-in-range
-    in-range-requires
-    returns
-    add_read
-    loop-less
-    loop-again
-    returns-2)
+    invariant-loop-read
+    decreases-loop-read
+    bounds-bytes-at
+    lead_of-len-requires
+    loop-read-init
+    overflow_add-at
+    in_range-requires
+    returns-then-not-in_range
+    overflow_add-read
+    loop-read-smaller
+    loop-read-preserved
+    returns)

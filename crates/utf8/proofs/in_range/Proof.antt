@@ -17,20 +17,20 @@ one_byte : (bytes : List ℕ) (at : ℕ) (range : Range) → at < length bytes �
 unfolding starts
 one_byte bytes at range h = rw (drop-cons bytes at 0 h, and-true) refl
 
-returns : tie.Need-returns
+returns-then-bytes-at : tie.Need-returns-then-bytes-at
 unfolding starts
-returns c =
-    let a = c.before.args in
+returns-then-bytes-at c =
+    let a = c.args in
     rw (drop_of_length-le a.bytes.now {i = a.at} (omega arith)) refl
 
-shared-slice-read-byte : tie.Need-shared-slice-read-byte
-shared-slice-read-byte c = search rules
+bounds-bytes-at : tie.Need-bounds-bytes-at
+bounds-bytes-at c = search rules
 
-returns-2 : tie.Need-returns-2
-returns-2 c = rw (one_byte _ _ _ c.before.before.if1.false, le-leb _ _ c.if2.true) refl
+returns-then-low-byte : tie.Need-returns-then-low-byte
+returns-then-low-byte c = rw (one_byte _ _ _ c.if-bytes-at.false, le-leb _ _ c.if-low-byte.true) refl
 
-returns-3 : tie.Need-returns-3
-returns-3 c = rw (one_byte _ _ _ c.before.before.if1.false, lt-leb _ _ c.if2.false) refl
+returns-else-low-byte : tie.Need-returns-else-low-byte
+returns-else-low-byte c = rw (one_byte _ _ _ c.if-bytes-at.false, lt-leb _ _ c.if-low-byte.false) refl
 
 pub in_range_spec : {M : Type 1} → statement M
-in_range_spec = tie.close (tie.spec returns shared-slice-read-byte returns-2 returns-3)
+in_range_spec = tie.close (tie.spec returns-then-bytes-at bounds-bytes-at returns-then-low-byte returns-else-low-byte)

@@ -6,62 +6,62 @@ use Rattle.utf8.proofs.Leads.{tells, lead_in}
 use Rattle.utf8.proofs.lead_of.Statement.{statement}
 use Rattle.utf8.proofs.lead_of.Tie as tie
 
-returns : tie.Need-returns
+returns-in-224 : tie.Need-returns-in-224
 unfolding tells
-returns c = lead_in 0xE0 0xE0 refl c.before.args.first (omega arith)
+returns-in-224 c = lead_in 0xE0 0xE0 refl c.args.first (omega arith)
 
-returns-2 : tie.Need-returns-2
+returns-in-237 : tie.Need-returns-in-237
 unfolding tells
-returns-2 c = lead_in 0xED 0xED refl c.before.args.first (omega arith)
+returns-in-237 c = lead_in 0xED 0xED refl c.args.first (omega arith)
 
-returns-3 : tie.Need-returns-3
+returns-in-240 : tie.Need-returns-in-240
 unfolding tells
-returns-3 c = lead_in 0xF0 0xF0 refl c.before.args.first (omega arith)
+returns-in-240 c = lead_in 0xF0 0xF0 refl c.args.first (omega arith)
 
-returns-4 : tie.Need-returns-4
+returns-in-244 : tie.Need-returns-in-244
 unfolding tells
-returns-4 c = lead_in 0xF4 0xF4 refl c.before.args.first (omega arith)
+returns-in-244 c = lead_in 0xF4 0xF4 refl c.args.first (omega arith)
 
-returns-5 : tie.Need-returns-5
+returns-in-0-to-127 : tie.Need-returns-in-0-to-127
 unfolding tells
-returns-5 c = lead_in 0x00 0x7F refl c.before.before.args.first (omega arith)
+returns-in-0-to-127 c = lead_in 0x00 0x7F refl c.args.first (omega arith)
 
-returns-6 : tie.Need-returns-6
+returns-in-194-to-223 : tie.Need-returns-in-194-to-223
 unfolding tells
-returns-6 c = lead_in 0xC2 0xDF refl c.before.before.before.before.args.first (omega arith)
+returns-in-194-to-223 c = lead_in 0xC2 0xDF refl c.args.first (omega arith)
 
-returns-7 : tie.Need-returns-7
+returns-in-225-to-236 : tie.Need-returns-in-225-to-236
 unfolding tells
-returns-7 c = lead_in 0xE1 0xEC refl c.before.before.before.before.before.args.first (omega arith)
+returns-in-225-to-236 c = lead_in 0xE1 0xEC refl c.args.first (omega arith)
 
-returns-8 : tie.Need-returns-8
+returns-in-238-to-239 : tie.Need-returns-in-238-to-239
 unfolding tells
-returns-8 c = lead_in 0xEE 0xEF refl c.before.before.before.before.before.before.args.first (omega arith)
+returns-in-238-to-239 c = lead_in 0xEE 0xEF refl c.args.first (omega arith)
 
-returns-9 : tie.Need-returns-9
+returns-in-241-to-243 : tie.Need-returns-in-241-to-243
 unfolding tells
-returns-9 c = lead_in 0xF1 0xF3 refl c.before.before.before.before.before.before.before.args.first (omega arith)
+returns-in-241-to-243 c = lead_in 0xF1 0xF3 refl c.args.first (omega arith)
 
-returns-10 : tie.Need-returns-10
+returns-in_default : tie.Need-returns-in_default
 unfolding tells
-returns-10 c = lead_in 0x80 0xC1 refl c.before.before.before.args.first (omega arith)
+returns-in_default c = lead_in 0x80 0xC1 refl c.args.first (omega arith)
 
-returns-11 : tie.Need-returns-11
+returns-in_default-2 : tie.Need-returns-in_default-2
 unfolding tells
-returns-11 c = lead_in 0xF5 0xFF refl c.before.before.before.before.before.before.before.args.first (omega arith)
+returns-in_default-2 c = lead_in 0xF5 0xFF refl c.args.first (omega arith)
 
 pub lead_of_spec : {M : Type 1} → statement M
 lead_of_spec =
     tie.close
     (tie.spec
-    returns
-    returns-2
-    returns-3
-    returns-4
-    returns-5
-    returns-6
-    returns-7
-    returns-8
-    returns-9
-    returns-10
-    returns-11)
+    returns-in-224
+    returns-in-237
+    returns-in-240
+    returns-in-244
+    returns-in-0-to-127
+    returns-in-194-to-223
+    returns-in-225-to-236
+    returns-in-238-to-239
+    returns-in-241-to-243
+    returns-in_default
+    returns-in_default-2)

@@ -10,70 +10,66 @@ use Rattle.utf8.proofs.Runs.{stop_past, stop_here, stop_on}
 use Rattle.utf8.proofs.stop_of.Statement.{statement}
 use Rattle.utf8.proofs.stop_of.Tie as tie
 
-abbrev invariant-loop : tie.invariant-loop
-invariant-loop bytes stops from at₀ at = stop_of bytes from ≡ stop_of bytes at
+abbrev invariant-loop-at : tie.invariant-loop-at
+invariant-loop-at bytes stops from at₀ at = stop_of bytes from ≡ stop_of bytes at
 
-abbrev decreases-loop : tie.decreases-loop
-decreases-loop bytes stops from at₀ at = length bytes - at
+abbrev decreases-loop-at : tie.decreases-loop-at
+decreases-loop-at bytes stops from at₀ at = length bytes - at
 
-loop-holds : tie.Need-loop-init invariant-loop decreases-loop
-loop-holds c = refl
+loop-at-init : tie.Need-loop-at-init invariant-loop-at decreases-loop-at
+loop-at-init c = refl
 
-mul-entry : tie.Need-overflow-mul-entry invariant-loop decreases-loop
-mul-entry c = omega arith
+offset_bounds-stops-at : tie.Need-offset_bounds-stops-at invariant-loop-at decreases-loop-at
+offset_bounds-stops-at c = omega arith
 
-element-copy-out-entry : tie.Need-element-copy-out-entry invariant-loop decreases-loop
-element-copy-out-entry c = omega arith
+bounds-stops-at : tie.Need-bounds-stops-at invariant-loop-at decreases-loop-at
+bounds-stops-at c = omega arith
 
-cast-if1 : tie.Need-overflow-cast-if1 invariant-loop decreases-loop
-cast-if1 c = omega arith
+overflow_cast-at : tie.Need-overflow_cast-at invariant-loop-at decreases-loop-at
+overflow_cast-at c = omega arith
 
-cast-result : tie.Need-overflow-cast-result invariant-loop decreases-loop
-cast-result c = omega arith
+overflow_cast-result : tie.Need-overflow_cast-result invariant-loop-at decreases-loop-at
+overflow_cast-result c = omega arith
 
-returns : tie.Need-returns invariant-loop decreases-loop
-returns c =
-    let a = c.before.before.before.before.before in
-    let l = c.before.before.before in
-    a.requires.right (l.loop.at / 64) (omega arith) ∙ ap (stop_of a.args.bytes.now) c.if1.true ∙ sym l.loop.invariant
+returns-then-entry-at : tie.Need-returns-then-entry-at invariant-loop-at decreases-loop-at
+returns-then-entry-at c =
+    c.requires.right (c.loop-at.at / 64) (omega arith) ∙ ap (stop_of c.args.bytes.now) c.if-entry-at.true ∙ sym c.loop-at.invariant
 
-char-len-requires : tie.Need-char-len-requires invariant-loop decreases-loop
-char-len-requires c κs = omega arith
+char_len-len-requires : tie.Need-char_len-len-requires invariant-loop-at decreases-loop-at
+char_len-len-requires c κs = omega arith
 
-returns-2 : tie.Need-returns-2 invariant-loop decreases-loop
-returns-2 c =
-    let l = c.before.before.before.before.before in
-    sym (l.loop.invariant ∙ stop_here _ _ _ c.before.before.before.before.loop-test.true c.before.char-len.ensures c.if2.true)
+returns-then-len-eq0 : tie.Need-returns-then-len-eq0 invariant-loop-at decreases-loop-at
+returns-then-len-eq0 c =
+    sym (c.loop-at.invariant ∙ stop_here _ _ _ c.loop-at-test.true c.char_len-len.ensures c.if-len-eq0.true)
 
-add_at : tie.Need-overflow-add-at invariant-loop decreases-loop
-add_at c = omega (arith, char_within _ _ _ c.before.before.before.before.loop-test.true c.before.char-len.ensures)
+overflow_add-at : tie.Need-overflow_add-at invariant-loop-at decreases-loop-at
+overflow_add-at c = omega (arith, char_within _ _ _ c.loop-at-test.true c.char_len-len.ensures)
 
-loop-less : tie.Need-loop-smaller invariant-loop decreases-loop
-loop-less c = omega (arith, char_within _ _ _ c.before.before.before.before.loop-test.true c.before.char-len.ensures)
+loop-at-smaller : tie.Need-loop-at-smaller invariant-loop-at decreases-loop-at
+loop-at-smaller c = omega (arith, char_within _ _ _ c.loop-at-test.true c.char_len-len.ensures)
 
-loop-again : tie.Need-loop-preserved invariant-loop decreases-loop
-loop-again c =
-    let l = c.before.before.before.before.before in
-    l.loop.invariant ∙ stop_on _ _ _ c.before.before.before.before.loop-test.true c.before.char-len.ensures (omega arith)
+loop-at-preserved : tie.Need-loop-at-preserved invariant-loop-at decreases-loop-at
+loop-at-preserved c =
+    c.loop-at.invariant ∙ stop_on _ _ _ c.loop-at-test.true c.char_len-len.ensures (omega arith)
 
-returns-3 : tie.Need-returns-3 invariant-loop decreases-loop
-returns-3 c = sym (c.before.loop.invariant ∙ stop_past _ _ c.loop-test.false)
+returns : tie.Need-returns invariant-loop-at decreases-loop-at
+returns c = sym (c.loop-at.invariant ∙ stop_past _ _ c.loop-at-test.false)
 
 pub stop_of_spec : {M : Type 1} → statement M
 stop_of_spec =
     tie.close
     (tie.spec
-    invariant-loop
-    decreases-loop
-    loop-holds
-    mul-entry
-    element-copy-out-entry
-    cast-if1
-    cast-result
-    returns
-    char-len-requires
-    returns-2
-    add_at
-    loop-less
-    loop-again
-    returns-3)
+    invariant-loop-at
+    decreases-loop-at
+    loop-at-init
+    offset_bounds-stops-at
+    bounds-stops-at
+    overflow_cast-at
+    overflow_cast-result
+    returns-then-entry-at
+    char_len-len-requires
+    returns-then-len-eq0
+    overflow_add-at
+    loop-at-smaller
+    loop-at-preserved
+    returns)

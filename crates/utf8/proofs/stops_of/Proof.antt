@@ -15,11 +15,11 @@ use Rattle.utf8.proofs.Runs.{stop_past, stop_within}
 use Rattle.utf8.proofs.stops_of.Statement.{statement}
 use Rattle.utf8.proofs.stops_of.Tie as tie
 
-abbrev invariant-loop : tie.invariant-loop
-invariant-loop bytes stops₀ block₀ stops block = (block ≤ 1024) × (length stops ≡ 1024) × Stops bytes stops
+abbrev invariant-loop-block : tie.invariant-loop-block
+invariant-loop-block bytes stops₀ block₀ stops block = (block ≤ 1024) × (length stops ≡ 1024) × Stops bytes stops
 
-abbrev decreases-loop : tie.decreases-loop
-decreases-loop bytes stops₀ block₀ stops block = block
+abbrev decreases-loop-block : tie.decreases-loop-block
+decreases-loop-block bytes stops₀ block₀ stops block = block
 
 -- an entry that says of a place where its characters stop
 abbrev Right : List ℕ → ℕ → Type 0
@@ -41,88 +41,88 @@ set-right bytes entries at entry h s r = record { short = s.short; right = λ i 
     go i true e old = subst (λ (n : ℕ). Right bytes n) (sym (ap (λ (n : ℕ). get_or (set entries at entry) n 0) (eqb-true i at e) ∙ get_or-set_same entries at entry 0 h)) r
     go i false e old = subst (λ (n : ℕ). Right bytes n) (sym (get_or-set_other entries at i entry 0 (eqb-false i at e))) old
 
-add-block : tie.Need-overflow-add-block invariant-loop decreases-loop
-add-block c = omega arith
+overflow_add-block : tie.Need-overflow_add-block invariant-loop-block decreases-loop-block
+overflow_add-block c = omega arith
 
-loop-holds : tie.Need-loop-init invariant-loop decreases-loop
-loop-holds c =
-    let bytes = c.before.args.bytes.now in
-    (omega arith, refl, record { short = c.before.requires; right = λ i l. subst (λ (n : ℕ). Right bytes n) (sym (get_or-replicate 1024 i 0xFFFFFFFF 0 l)) (unnamed bytes c.before.requires) })
+loop-block-init : tie.Need-loop-block-init invariant-loop-block decreases-loop-block
+loop-block-init c =
+    let bytes = c.args.bytes.now in
+    (omega arith, refl, record { short = c.requires; right = λ i l. subst (λ (n : ℕ). Right bytes n) (sym (get_or-replicate 1024 i 0xFFFFFFFF 0 l)) (unnamed bytes c.requires) })
 
-sub-block : tie.Need-overflow-sub-block invariant-loop decreases-loop
-sub-block c = omega arith
+overflow_sub-block : tie.Need-overflow_sub-block invariant-loop-block decreases-loop-block
+overflow_sub-block c = omega arith
 
-mul-after-tails : tie.Need-overflow-mul-after-tails invariant-loop decreases-loop
-mul-after-tails c = omega arith
+overflow_mul-block : tie.Need-overflow_mul-block invariant-loop-block decreases-loop-block
+overflow_mul-block c = omega arith
 
-after-tails-requires : tie.Need-after-tails-requires invariant-loop decreases-loop
-after-tails-requires c κs = omega arith
+after_tails-place-requires : tie.Need-after_tails-place-requires invariant-loop-block decreases-loop-block
+after_tails-place-requires c κs = omega arith
 
-stop-of-requires : tie.Need-stop-of-requires invariant-loop decreases-loop
-stop-of-requires c κs = search rules
+stop_of-stop-requires : tie.Need-stop_of-stop-requires invariant-loop-block decreases-loop-block
+stop_of-stop-requires c κs = search rules
 
-mul-stops : tie.Need-overflow-mul-stops invariant-loop decreases-loop
-mul-stops c = omega arith
+overflow_mul-stops : tie.Need-overflow_mul-stops invariant-loop-block decreases-loop-block
+overflow_mul-stops c = omega arith
 
-stop-fits : (c : tie.After-stop-of invariant-loop decreases-loop) → c.stop-of.result ≤ 65535
+stop-fits : (c : tie.After-stop_of-stop invariant-loop-block decreases-loop-block) → c.stop_of-stop.result ≤ 65535
 stop-fits c =
-    let bytes = c.before.before.before.before.before.before.before.args.bytes.now in
-    omega (arith, stop_within bytes c.before.before.before.after-tails.result (omega arith))
+    let bytes = c.args.bytes.now in
+    omega (arith, stop_within bytes c.after_tails-place.result (omega arith))
 
-add-stops : tie.Need-overflow-add-stops invariant-loop decreases-loop
-add-stops c = omega (arith, stop-fits c)
+overflow_add-stops : tie.Need-overflow_add-stops invariant-loop-block decreases-loop-block
+overflow_add-stops c = omega (arith, stop-fits c)
 
-cast-stops : tie.Need-overflow-cast-stops invariant-loop decreases-loop
-cast-stops c = omega (arith, stop-fits c)
+overflow_cast-stops : tie.Need-overflow_cast-stops invariant-loop-block decreases-loop-block
+overflow_cast-stops c = omega (arith, stop-fits c)
 
-mul-stops-2 : tie.Need-overflow-mul-stops-2 invariant-loop decreases-loop
-mul-stops-2 c = omega arith
+offset_bounds-stops-block : tie.Need-offset_bounds-stops-block invariant-loop-block decreases-loop-block
+offset_bounds-stops-block c = omega arith
 
-array-write-stops : tie.Need-array-write-stops invariant-loop decreases-loop
-array-write-stops c = omega arith
+bounds-stops-block : tie.Need-bounds-stops-block invariant-loop-block decreases-loop-block
+bounds-stops-block c = omega arith
 
-loop-less : tie.Need-loop-smaller invariant-loop decreases-loop
-loop-less c = omega arith
+loop-block-smaller-then-place-bytes : tie.Need-loop-block-smaller-then-place-bytes invariant-loop-block decreases-loop-block
+loop-block-smaller-then-place-bytes c = omega arith
 
-loop-again : tie.Need-loop-preserved invariant-loop decreases-loop
-loop-again c =
-    let l = c.before.before.before.before.before.loop in
+loop-block-preserved-then-place-bytes : tie.Need-loop-block-preserved-then-place-bytes invariant-loop-block decreases-loop-block
+loop-block-preserved-then-place-bytes c =
+    let l = c.loop-block in
     let fits = stop-fits c in (
       omega arith,
       length-set l.stops (l.block - 1) _ ∙ l.invariant.1,
-      set-right _ _ _ _ (omega arith) l.invariant.2 (named _ _ _ c.stop-of.ensures (omega arith)),
+      set-right _ _ _ _ (omega arith) l.invariant.2 (named _ _ _ c.stop_of-stop.ensures (omega arith)),
     )
 
-loop-less-2 : tie.Need-loop-smaller-2 invariant-loop decreases-loop
-loop-less-2 c = omega arith
+loop-block-smaller : tie.Need-loop-block-smaller invariant-loop-block decreases-loop-block
+loop-block-smaller c = omega arith
 
-loop-again-2 : tie.Need-loop-preserved-2 invariant-loop decreases-loop
-loop-again-2 c =
-    let l = c.before.before.before.loop in
+loop-block-preserved : tie.Need-loop-block-preserved invariant-loop-block decreases-loop-block
+loop-block-preserved c =
+    let l = c.loop-block in
     (omega arith, l.invariant.1, l.invariant.2)
 
-returns : tie.Need-returns invariant-loop decreases-loop
-returns c = c.before.loop.invariant.2
+returns : tie.Need-returns invariant-loop-block decreases-loop-block
+returns c = c.loop-block.invariant.2
 
 pub stops_of_spec : {M : Type 1} → statement M
 stops_of_spec =
     tie.close
     (tie.spec
-    invariant-loop
-    decreases-loop
-    add-block
-    loop-holds
-    sub-block
-    mul-after-tails
-    after-tails-requires
-    stop-of-requires
-    mul-stops
-    add-stops
-    cast-stops
-    mul-stops-2
-    array-write-stops
-    loop-less
-    loop-again
-    loop-less-2
-    loop-again-2
+    invariant-loop-block
+    decreases-loop-block
+    overflow_add-block
+    loop-block-init
+    overflow_sub-block
+    overflow_mul-block
+    after_tails-place-requires
+    stop_of-stop-requires
+    overflow_mul-stops
+    overflow_add-stops
+    overflow_cast-stops
+    offset_bounds-stops-block
+    bounds-stops-block
+    loop-block-smaller-then-place-bytes
+    loop-block-preserved-then-place-bytes
+    loop-block-smaller
+    loop-block-preserved
     returns)

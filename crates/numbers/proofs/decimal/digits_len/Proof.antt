@@ -8,31 +8,29 @@ use Rattle.numbers.proofs.DecimalLaws.{length-one, length_more, length_some, len
 use Rattle.numbers.proofs.decimal.digits_len.Statement.{statement}
 use Rattle.numbers.proofs.decimal.digits_len.Tie as tie
 
-abbrev invariant-loop : tie.invariant-loop
-invariant-loop n len₀ rest₀ len rest = len + length (digits_of rest) ≡ length (digits_of n) + 1
+abbrev invariant-loop-rest : tie.invariant-loop-rest
+invariant-loop-rest n len₀ rest₀ len rest = len + length (digits_of rest) ≡ length (digits_of n) + 1
 
-abbrev decreases-loop : tie.decreases-loop
-decreases-loop n len₀ rest₀ len rest = rest
+abbrev decreases-loop-rest : tie.decreases-loop-rest
+decreases-loop-rest n len₀ rest₀ len rest = rest
 
-loop-holds : tie.Need-loop-init invariant-loop decreases-loop
-loop-holds c = omega arith
+loop-rest-init : tie.Need-loop-rest-init invariant-loop-rest decreases-loop-rest
+loop-rest-init c = omega arith
 
-add-len : tie.Need-overflow-add-len invariant-loop decreases-loop
-add-len c =
-    let s = c.before.before in
-    omega (arith, length-below 19 s.args.n (omega arith), length_some c.before.loop.rest)
+overflow_add-len : tie.Need-overflow_add-len invariant-loop-rest decreases-loop-rest
+overflow_add-len c =
+    omega (arith, length-below 19 c.args.n (omega arith), length_some c.loop-rest.rest)
 
-loop-less : tie.Need-loop-smaller invariant-loop decreases-loop
-loop-less c = omega arith
+loop-rest-smaller : tie.Need-loop-rest-smaller invariant-loop-rest decreases-loop-rest
+loop-rest-smaller c = omega arith
 
-loop-again : tie.Need-loop-preserved invariant-loop decreases-loop
-loop-again c = omega (arith, length_more c.before.loop.rest (omega arith))
+loop-rest-preserved : tie.Need-loop-rest-preserved invariant-loop-rest decreases-loop-rest
+loop-rest-preserved c = omega (arith, length_more c.loop-rest.rest (omega arith))
 
-returns : tie.Need-returns invariant-loop decreases-loop
+returns : tie.Need-returns invariant-loop-rest decreases-loop-rest
 returns c =
-    let s = c.before.before in
-    let one = length-one c.before.loop.rest (omega arith) in
-    (omega arith, omega (arith, length-below 19 s.args.n (omega arith)))
+    let one = length-one c.loop-rest.rest (omega arith) in
+    (omega arith, omega (arith, length-below 19 c.args.n (omega arith)))
 
 pub digits_len_spec : {M : Type 1} → statement M
-digits_len_spec = tie.close (tie.spec invariant-loop decreases-loop loop-holds add-len loop-less loop-again returns)
+digits_len_spec = tie.close (tie.spec invariant-loop-rest decreases-loop-rest loop-rest-init overflow_add-len loop-rest-smaller loop-rest-preserved returns)

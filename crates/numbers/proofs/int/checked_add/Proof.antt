@@ -8,25 +8,23 @@ use Rattle.numbers.proofs.IntLaws.{answered, refused}
 use Rattle.numbers.proofs.int.checked_add.Statement.{statement}
 use Rattle.numbers.proofs.int.checked_add.Tie as tie
 
-sum-fits-requires : tie.Need-sum-fits-requires
-sum-fits-requires c κs = search rules
+sum_fits-requires : tie.Need-sum_fits-requires
+sum_fits-requires c κs = search rules
 
-add-t4 : tie.Need-overflow-add-t4
-add-t4 c = fits_in _ (sym c.before.sum-fits.ensures ∙ c.if1.true)
+overflow_add-result : tie.Need-overflow_add-result
+overflow_add-result c = fits_in _ (sym c.sum_fits.ensures ∙ c.if-sum_fits.true)
+
+returns-then-sum_fits : tie.Need-returns-then-sum_fits
+returns-then-sum_fits c =
+    let x = to_z-of_z c.ranges.x in
+    let y = to_z-of_z c.ranges.y in
+    rw (x, y) (answered (c.args.x +ℤ c.args.y) (sym (rw (x, y) at c.sum_fits.ensures) ∙ c.if-sum_fits.true))
 
 returns : tie.Need-returns
 returns c =
-    let s = c.before.before in
-    let x = to_z-of_z s.ranges.x in
-    let y = to_z-of_z s.ranges.y in
-    rw (x, y) (answered (s.args.x +ℤ s.args.y) (sym (rw (x, y) at c.before.sum-fits.ensures) ∙ c.if1.true))
-
-returns-2 : tie.Need-returns-2
-returns-2 c =
-    let s = c.before.before in
-    let x = to_z-of_z s.ranges.x in
-    let y = to_z-of_z s.ranges.y in
-    refused (s.args.x +ℤ s.args.y) (sym (rw (x, y) at c.before.sum-fits.ensures) ∙ c.if1.false)
+    let x = to_z-of_z c.ranges.x in
+    let y = to_z-of_z c.ranges.y in
+    refused (c.args.x +ℤ c.args.y) (sym (rw (x, y) at c.sum_fits.ensures) ∙ c.if-sum_fits.false)
 
 pub checked_add_spec : {M : Type 1} → statement M
-checked_add_spec = tie.close (tie.spec sum-fits-requires add-t4 returns returns-2)
+checked_add_spec = tie.close (tie.spec sum_fits-requires overflow_add-result returns-then-sum_fits returns)

@@ -1,51 +1,47 @@
 -- `int::checked_div` meets its contract: what is not refused is no least i64 over -1, so its quotient is an i64.
 use mathlib.Core.Path.{◌≡◌, sym, ◌∙◌}
 use mathlib.Core.Bool.{false, ◌&&◌}
-use mathlib.Core.Logic.{inl, inr}
 use lib.IntN.{pos, negsuc}
 use mir.Facts.{to_z-of_z, sfits_lit}
 use Rattle.numbers.specs.Ints.{eq_z, least}
 use Rattle.numbers.proofs.IntLaws.{same_test, same, differ, positive, quotient}
 use Rattle.numbers.proofs.int.checked_div.Statement.{statement}
 use Rattle.numbers.proofs.int.checked_div.Tie as tie
+use Rattle.numbers.proofs.int.checked_div.Lts.{else-x-eqminus9223372036854775808-via-then-x-eqminus9223372036854775808+else-y-eqminus1, else-x-eqminus9223372036854775808-via-else-x-eqminus9223372036854775808}
 
-returns : tie.Need-returns
-returns c = rw (same c.before.args.y (pos 0) c.before.ranges.y (sfits_lit tt) c.if1.true)
+returns-then-y-eq0 : tie.Need-returns-then-y-eq0
+returns-then-y-eq0 c = rw (same c.args.y (pos 0) c.ranges.y (sfits_lit tt) c.if-y-eq0.true)
 
-returns-2 : tie.Need-returns-2
-returns-2 c =
-    let s = c.before.before.before in
+returns-then-y-eqminus1 : tie.Need-returns-then-y-eqminus1
+returns-then-y-eqminus1 c =
     rw (
-      differ s.args.y (pos 0) s.ranges.y (sfits_lit tt) c.before.before.if1.false,
-      same s.args.x least s.ranges.x (sfits_lit tt) c.before.if2.true,
-      sym (same_test s.args.y (negsuc 0) s.ranges.y (sfits_lit tt)) ∙ c.if3.true,
+      differ c.args.y (pos 0) c.ranges.y (sfits_lit tt) c.if-y-eq0.false,
+      same c.args.x least c.ranges.x (sfits_lit tt) c.if-x-eqminus9223372036854775808.true,
+      sym (same_test c.args.y (negsuc 0) c.ranges.y (sfits_lit tt)) ∙ c.if-y-eqminus1.true-raw,
     )
 
-whole : (c : tie.Joined2) → eq_z c.before.before.args.x least && eq_z c.before.before.args.y (negsuc 0) ≡ false
+whole : (c : tie.Joined-else-x-eqminus9223372036854775808) → eq_z c.args.x least && eq_z c.args.y (negsuc 0) ≡ false
 whole c =
-    let s = c.before.before in
-    elim c.if2.branch [
-      | inl w ↦
-          rw (same s.args.x least s.ranges.x (sfits_lit tt) w.0.taken)
-          (sym (same_test s.args.y (negsuc 0) s.ranges.y (sfits_lit tt)) ∙ w.1.left)
-      | inr w ↦ rw (differ s.args.x least s.ranges.x (sfits_lit tt) w.left)
+    elim c.else-x-eqminus9223372036854775808.branch [
+      | else-x-eqminus9223372036854775808-via-then-x-eqminus9223372036854775808+else-y-eqminus1 w ↦
+          rw (same c.args.x least c.ranges.x (sfits_lit tt) w.if-x-eqminus9223372036854775808.true)
+          (sym (same_test c.args.y (negsuc 0) c.ranges.y (sfits_lit tt)) ∙ w.if-y-eqminus1.false-raw)
+      | else-x-eqminus9223372036854775808-via-else-x-eqminus9223372036854775808 w ↦ rw (differ c.args.x least c.ranges.x (sfits_lit tt) w.if-x-eqminus9223372036854775808.false)
     ]
 
-div-t8 : tie.Need-nonzero-div-t8
-div-t8 c =
-    let s = c.before.before in
-    rw (to_z-of_z s.ranges.x, to_z-of_z s.ranges.y) (positive _ c.before.if1.false, quotient s.args.x s.args.y s.ranges.x (whole c))
+nonzero_div-result : tie.Need-nonzero_div-result
+nonzero_div-result c =
+    rw (to_z-of_z c.ranges.x, to_z-of_z c.ranges.y) (positive _ c.if-y-eq0.false, quotient c.args.x c.args.y c.ranges.x (whole c))
 
-returns-3 : tie.Need-returns-3
-returns-3 c =
-    let s = c.before.before in
+returns : tie.Need-returns
+returns c =
     rw (
-      to_z-of_z s.ranges.x,
-      to_z-of_z s.ranges.y,
-      differ s.args.y (pos 0) s.ranges.y (sfits_lit tt) c.before.if1.false,
+      to_z-of_z c.ranges.x,
+      to_z-of_z c.ranges.y,
+      differ c.args.y (pos 0) c.ranges.y (sfits_lit tt) c.if-y-eq0.false,
       whole c,
-      to_z-of_z (quotient s.args.x s.args.y s.ranges.x (whole c)),
+      to_z-of_z (quotient c.args.x c.args.y c.ranges.x (whole c)),
     )
 
 pub checked_div_spec : {M : Type 1} → statement M
-checked_div_spec = tie.close (tie.spec returns returns-2 div-t8 returns-3)
+checked_div_spec = tie.close (tie.spec returns-then-y-eq0 returns-then-y-eqminus1 nonzero_div-result returns)

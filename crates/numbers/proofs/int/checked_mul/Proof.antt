@@ -8,25 +8,23 @@ use Rattle.numbers.proofs.IntLaws.{answered, refused}
 use Rattle.numbers.proofs.int.checked_mul.Statement.{statement}
 use Rattle.numbers.proofs.int.checked_mul.Tie as tie
 
-product-fits-requires : tie.Need-product-fits-requires
-product-fits-requires c κs = search rules
+product_fits-requires : tie.Need-product_fits-requires
+product_fits-requires c κs = search rules
 
-mul-t4 : tie.Need-overflow-mul-t4
-mul-t4 c = fits_in _ (sym c.before.product-fits.ensures ∙ c.if1.true)
+overflow_mul-result : tie.Need-overflow_mul-result
+overflow_mul-result c = fits_in _ (sym c.product_fits.ensures ∙ c.if-product_fits.true)
+
+returns-then-product_fits : tie.Need-returns-then-product_fits
+returns-then-product_fits c =
+    let x = to_z-of_z c.ranges.x in
+    let y = to_z-of_z c.ranges.y in
+    rw (x, y) (answered (c.args.x *ℤ c.args.y) (sym (rw (x, y) at c.product_fits.ensures) ∙ c.if-product_fits.true))
 
 returns : tie.Need-returns
 returns c =
-    let s = c.before.before in
-    let x = to_z-of_z s.ranges.x in
-    let y = to_z-of_z s.ranges.y in
-    rw (x, y) (answered (s.args.x *ℤ s.args.y) (sym (rw (x, y) at c.before.product-fits.ensures) ∙ c.if1.true))
-
-returns-2 : tie.Need-returns-2
-returns-2 c =
-    let s = c.before.before in
-    let x = to_z-of_z s.ranges.x in
-    let y = to_z-of_z s.ranges.y in
-    refused (s.args.x *ℤ s.args.y) (sym (rw (x, y) at c.before.product-fits.ensures) ∙ c.if1.false)
+    let x = to_z-of_z c.ranges.x in
+    let y = to_z-of_z c.ranges.y in
+    refused (c.args.x *ℤ c.args.y) (sym (rw (x, y) at c.product_fits.ensures) ∙ c.if-product_fits.false)
 
 pub checked_mul_spec : {M : Type 1} → statement M
-checked_mul_spec = tie.close (tie.spec product-fits-requires mul-t4 returns returns-2)
+checked_mul_spec = tie.close (tie.spec product_fits-requires overflow_mul-result returns-then-product_fits returns)

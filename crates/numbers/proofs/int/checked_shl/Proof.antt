@@ -10,31 +10,28 @@ use Rattle.numbers.proofs.WordLaws.{int_is, shifted}
 use Rattle.numbers.proofs.int.checked_shl.Statement.{statement}
 use Rattle.numbers.proofs.int.checked_shl.Tie as tie
 
-shift-operand-requires : tie.Need-shift-operand-requires
-shift-operand-requires c κs = search rules
+shift_operand-operand-requires : tie.Need-shift_operand-operand-requires
+shift_operand-operand-requires c κs = search rules
 
-enum-known-operand : tie.Need-enum-known-operand
-enum-known-operand c = search rules
+enum_known-operand : tie.Need-enum_known-operand
+enum_known-operand c = search rules
+
+returns-in_default : tie.Need-returns-in_default
+returns-in_default c =
+    no_shift c.args.y _ c.shift_operand-operand.result c.in_default.in_default-own.keys2 (rw (to_z-of_z c.ranges.y) at c.shift_operand-operand.ensures)
+
+by : (c : tie.In-Value) → Shift c.args.y c.in-Value.k
+by c =
+    shift c.args.y c.in-Value.k (rw (to_z-of_z c.ranges.y) at (sym c.shift_operand-operand.ensures) ∙ c.in-Value.is)
+
+overflow_shl-result : tie.Need-overflow_shl-result
+overflow_shl-result c = rw (by c).operand (by c).below
 
 returns : tie.Need-returns
 returns c =
-    let s = c.before.before in
-    no_shift s.args.y _ c.before.shift-operand.result c.match.keys2 (rw (to_z-of_z s.ranges.y) at c.before.shift-operand.ensures)
-
-by : (c : tie.After-known-told) → Shift c.before.before.before.before.args.y c.before.operand.given.0.0
-by c =
-    let d = c.before.before.before in
-    shift d.before.args.y c.before.operand.given.0.0 (rw (to_z-of_z d.before.ranges.y) at (sym d.shift-operand.ensures) ∙ c.before.operand.given.1)
-
-shl-t5 : tie.Need-overflow-shl-t5
-shl-t5 c = rw (by c).operand (by c).below
-
-returns-2 : tie.Need-returns-2
-returns-2 c =
-    let s = c.before.before.before.before in
-    let y = s.args.y in
-    rw ((by c).operand, (by c).bits, (by c).value (int_of (word_of (s.args.x *ℤ pos (2 ^ nat_abs y)))), int_is (word_of (s.args.x *ℤ pos (2 ^ nat_abs y))), shifted s.args.x (nat_abs y) s.ranges.x)
+    let y = c.args.y in
+    rw ((by c).operand, (by c).bits, (by c).value (int_of (word_of (c.args.x *ℤ pos (2 ^ nat_abs y)))), int_is (word_of (c.args.x *ℤ pos (2 ^ nat_abs y))), shifted c.args.x (nat_abs y) c.ranges.x)
 
 pub checked_shl_spec : {M : Type 1} → statement M
 checked_shl_spec =
-    tie.close (tie.spec shift-operand-requires enum-known-operand returns shl-t5 returns-2)
+    tie.close (tie.spec shift_operand-operand-requires enum_known-operand returns-in_default overflow_shl-result returns)

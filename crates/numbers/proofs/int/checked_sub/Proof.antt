@@ -8,25 +8,23 @@ use Rattle.numbers.proofs.IntLaws.{answered, refused}
 use Rattle.numbers.proofs.int.checked_sub.Statement.{statement}
 use Rattle.numbers.proofs.int.checked_sub.Tie as tie
 
-difference-fits-requires : tie.Need-difference-fits-requires
-difference-fits-requires c κs = search rules
+difference_fits-requires : tie.Need-difference_fits-requires
+difference_fits-requires c κs = search rules
 
-sub-t4 : tie.Need-overflow-sub-t4
-sub-t4 c = fits_in _ (sym c.before.difference-fits.ensures ∙ c.if1.true)
+overflow_sub-result : tie.Need-overflow_sub-result
+overflow_sub-result c = fits_in _ (sym c.difference_fits.ensures ∙ c.if-difference_fits.true)
+
+returns-then-difference_fits : tie.Need-returns-then-difference_fits
+returns-then-difference_fits c =
+    let x = to_z-of_z c.ranges.x in
+    let y = to_z-of_z c.ranges.y in
+    rw (x, y) (answered (c.args.x -ℤ c.args.y) (sym (rw (x, y) at c.difference_fits.ensures) ∙ c.if-difference_fits.true))
 
 returns : tie.Need-returns
 returns c =
-    let s = c.before.before in
-    let x = to_z-of_z s.ranges.x in
-    let y = to_z-of_z s.ranges.y in
-    rw (x, y) (answered (s.args.x -ℤ s.args.y) (sym (rw (x, y) at c.before.difference-fits.ensures) ∙ c.if1.true))
-
-returns-2 : tie.Need-returns-2
-returns-2 c =
-    let s = c.before.before in
-    let x = to_z-of_z s.ranges.x in
-    let y = to_z-of_z s.ranges.y in
-    refused (s.args.x -ℤ s.args.y) (sym (rw (x, y) at c.before.difference-fits.ensures) ∙ c.if1.false)
+    let x = to_z-of_z c.ranges.x in
+    let y = to_z-of_z c.ranges.y in
+    refused (c.args.x -ℤ c.args.y) (sym (rw (x, y) at c.difference_fits.ensures) ∙ c.if-difference_fits.false)
 
 pub checked_sub_spec : {M : Type 1} → statement M
-checked_sub_spec = tie.close (tie.spec difference-fits-requires sub-t4 returns returns-2)
+checked_sub_spec = tie.close (tie.spec difference_fits-requires overflow_sub-result returns-then-difference_fits returns)

@@ -12,73 +12,67 @@ use Rattle.numbers.proofs.IntLaws.{limit, product, product_small, product_zero}
 use Rattle.numbers.proofs.int.product_fits.Statement.{statement}
 use Rattle.numbers.proofs.int.product_fits.Tie as tie
 
-unsigned-abs-requires : tie.Need-unsigned-abs-requires
-unsigned-abs-requires c κs = search rules
+unsigned_abs-a-requires : tie.Need-unsigned_abs-a-requires
+unsigned_abs-a-requires c κs = search rules
 
-unsigned-abs-requires-2 : tie.Need-unsigned-abs-requires-2
-unsigned-abs-requires-2 c κs = search rules
+unsigned_abs-b-requires : tie.Need-unsigned_abs-b-requires
+unsigned_abs-b-requires c κs = search rules
 
-returns : tie.Need-returns
-returns c =
-    let b = c.before.before in
-    let s = b.before.before in
-    product_small s.args.x s.args.y
-    (rw (b.before.unsigned_abs.ensures, to_z-of_z s.ranges.x) at c.before.if1.true)
-    (leb-true _ 3037000499 (rw (b.unsigned-abs2.ensures, to_z-of_z s.ranges.y) at c.if2.true))
+returns-then-b-le3037000499 : tie.Need-returns-then-b-le3037000499
+returns-then-b-le3037000499 c =
+    product_small c.args.x c.args.y
+    (rw (c.unsigned_abs-a.ensures, to_z-of_z c.ranges.x) at c.if-a-le3037000499.true)
+    (leb-true _ 3037000499 (rw (c.unsigned_abs-b.ensures, to_z-of_z c.ranges.y) at c.if-b-le3037000499.true-raw))
 
-returns-2 : tie.Need-returns-2
-returns-2 c =
-    let b = c.before.before in
-    let s = b.before.before in
-    product_zero s.args.x s.args.y (rw (b.unsigned-abs2.ensures, to_z-of_z s.ranges.y) at c.if3.true)
+returns-then-b-eq0 : tie.Need-returns-then-b-eq0
+returns-then-b-eq0 c =
+    product_zero c.args.x c.args.y (rw (c.unsigned_abs-b.ensures, to_z-of_z c.ranges.y) at c.if-b-eq0.true)
 
 -- the limit's share of the second factor, for either sign of each
 within :
-    (c : tie.Else3) →
-    leb c.before.before.before.unsigned_abs.result
-    (limit (le_z (pos 0) c.before.before.before.before.args.x) (le_z (pos 0) c.before.before.before.before.args.y) / c.before.before.unsigned-abs2.result)
-    ≡ in_i64 (c.before.before.before.before.args.x *ℤ c.before.before.before.before.args.y)
+    (c : tie.Else-b-eq0) →
+    leb c.unsigned_abs-a.result
+    (limit (le_z (pos 0) c.args.x) (le_z (pos 0) c.args.y) / c.unsigned_abs-b.result)
+    ≡ in_i64 (c.args.x *ℤ c.args.y)
 within c =
-    let b = c.before.before in
-    let s = b.before.before in
-    let n = rw (to_z-of_z s.ranges.y) at b.unsigned-abs2.ensures in
-    rw (b.before.unsigned_abs.ensures, n, to_z-of_z s.ranges.x) (product s.args.x s.args.y (rw n at c.if3.false))
+    let n = rw (to_z-of_z c.ranges.y) at c.unsigned_abs-b.ensures in
+    rw (c.unsigned_abs-a.ensures, n, to_z-of_z c.ranges.x) (product c.args.x c.args.y (rw n at c.if-b-eq0.false))
 
-div-result : tie.Need-nonzero-div-result
-div-result c = search rules
+nonzero_div-result : tie.Need-nonzero_div-result
+nonzero_div-result c = search rules
 
-returns-3 : tie.Need-returns-3
-returns-3 c =
-    let f = c.before.before.before.before.before.before.ranges in
-    rw (rw (to_z-of_z f.x) at c.before.if4.true, rw (to_z-of_z f.y) at c.if5.true) at (within c.before.before)
+returns-then-y-ge0 : tie.Need-returns-then-y-ge0
+returns-then-y-ge0 c =
+    let f = c.ranges in
+    rw (rw (to_z-of_z f.x) at c.if-x-ge0.true, rw (to_z-of_z f.y) at c.if-y-ge0.true) at (within c.before.before)
 
-div-result-2 : tie.Need-nonzero-div-result-2
-div-result-2 c = search rules
+nonzero_div-result-then-x-ge0 : tie.Need-nonzero_div-result-then-x-ge0
+nonzero_div-result-then-x-ge0 c = search rules
 
-returns-4 : tie.Need-returns-4
-returns-4 c =
-    let f = c.before.before.before.before.before.before.ranges in
-    rw (rw (to_z-of_z f.x) at c.before.if4.true, rw (to_z-of_z f.y) at c.if5.false) at (within c.before.before)
+returns-then-x-ge0 : tie.Need-returns-then-x-ge0
+returns-then-x-ge0 c =
+    let f = c.ranges in
+    rw (rw (to_z-of_z f.x) at c.if-x-ge0.true, rw (to_z-of_z f.y) at c.if-y-ge0.false) at (within c.before.before)
 
-div-result-3 : tie.Need-nonzero-div-result-3
-div-result-3 c = search rules
+nonzero_div-result-then-y-ge0-2 : tie.Need-nonzero_div-result-then-y-ge0-2
+nonzero_div-result-then-y-ge0-2 c = search rules
 
-returns-5 : tie.Need-returns-5
-returns-5 c =
-    let f = c.before.before.before.before.before.before.ranges in
-    rw (rw (to_z-of_z f.x) at c.before.if4.false, rw (to_z-of_z f.y) at c.if6.true) at (within c.before.before)
+returns-then-y-ge0-2 : tie.Need-returns-then-y-ge0-2
+returns-then-y-ge0-2 c =
+    let f = c.ranges in
+    rw (rw (to_z-of_z f.x) at c.if-x-ge0.false, rw (to_z-of_z f.y) at c.if-y-ge0-2.true) at (within c.before.before)
 
-div-result-4 : tie.Need-nonzero-div-result-4
-div-result-4 c = search rules
+nonzero_div-result-2 : tie.Need-nonzero_div-result-2
+nonzero_div-result-2 c = search rules
 
-returns-6 : tie.Need-returns-6
-returns-6 c =
-    let f = c.before.before.before.before.before.before.ranges in
-    rw (rw (to_z-of_z f.x) at c.before.if4.false, rw (to_z-of_z f.y) at c.if6.false) at (within c.before.before)
+returns : tie.Need-returns
+returns c =
+    let f = c.ranges in
+    rw (rw (to_z-of_z f.x) at c.if-x-ge0.false, rw (to_z-of_z f.y) at c.if-y-ge0-2.false) at (within c.before.before)
 
 pub product_fits_spec : {M : Type 1} → statement M
 product_fits_spec =
     tie.close
     (tie.spec
-    unsigned-abs-requires unsigned-abs-requires-2 returns returns-2
-    div-result returns-3 div-result-2 returns-4 div-result-3 returns-5 div-result-4 returns-6)
+    unsigned_abs-a-requires unsigned_abs-b-requires returns-then-b-le3037000499 returns-then-b-eq0
+    nonzero_div-result returns-then-y-ge0 nonzero_div-result-then-x-ge0 returns-then-x-ge0 nonzero_div-result-then-y-ge0-2 returns-then-y-ge0-2 nonzero_div-result-2 returns)

@@ -7,29 +7,26 @@ use Rattle.numbers.proofs.WordLaws.{word_up, word_down}
 use Rattle.numbers.proofs.word.int_to_word.Statement.{statement}
 use Rattle.numbers.proofs.word.int_to_word.Tie as tie
 
-unsigned-abs-requires : tie.Need-unsigned-abs-requires
-unsigned-abs-requires c κs = search rules
+unsigned_abs-n-requires : tie.Need-unsigned_abs-n-requires
+unsigned_abs-n-requires c κs = search rules
+
+returns-then-x-ge0 : tie.Need-returns-then-x-ge0
+returns-then-x-ge0 c =
+    let x = to_z-of_z c.ranges.x in
+    rw (c.unsigned_abs-n.ensures, x) (word_up c.args.x c.ranges.x (rw x at c.if-x-ge0.true))
+
+overflow_sub-result : tie.Need-overflow_sub-result
+overflow_sub-result c = search rules
+
+overflow_add-result : tie.Need-overflow_add-result
+overflow_add-result c =
+    let x = to_z-of_z c.ranges.x in
+    rw (c.unsigned_abs-n.ensures, x) (omega (arith, negative_abs c.args.x (rw x at c.if-x-ge0.false)))
 
 returns : tie.Need-returns
 returns c =
-    let s = c.before.before in
-    let x = to_z-of_z s.ranges.x in
-    rw (c.before.unsigned_abs.ensures, x) (word_up s.args.x s.ranges.x (rw x at c.if1.true))
-
-sub-result : tie.Need-overflow-sub-result
-sub-result c = search rules
-
-add-result : tie.Need-overflow-add-result
-add-result c =
-    let s = c.before.before in
-    let x = to_z-of_z s.ranges.x in
-    rw (c.before.unsigned_abs.ensures, x) (omega (arith, negative_abs s.args.x (rw x at c.if1.false)))
-
-returns-2 : tie.Need-returns-2
-returns-2 c =
-    let s = c.before.before in
-    let x = to_z-of_z s.ranges.x in
-    rw (c.before.unsigned_abs.ensures, x) (word_down s.args.x s.ranges.x (rw x at c.if1.false))
+    let x = to_z-of_z c.ranges.x in
+    rw (c.unsigned_abs-n.ensures, x) (word_down c.args.x c.ranges.x (rw x at c.if-x-ge0.false))
 
 pub int_to_word_spec : {M : Type 1} → statement M
-int_to_word_spec = tie.close (tie.spec unsigned-abs-requires returns sub-result add-result returns-2)
+int_to_word_spec = tie.close (tie.spec unsigned_abs-n-requires returns-then-x-ge0 overflow_sub-result overflow_add-result returns)

@@ -5,17 +5,17 @@ use Rattle.numbers.proofs.FloatLaws.{above, below}
 use Rattle.numbers.proofs.word.word_to_float.Statement.{statement}
 use Rattle.numbers.proofs.word.word_to_float.Tie as tie
 
-not-a-number-requires : tie.Need-not-a-number-requires
-not-a-number-requires c κs = search rules
+not_a_number-requires : tie.Need-not_a_number-requires
+not_a_number-requires c κs = search rules
+
+returns-then-w-gt9218868437227405312 : tie.Need-returns-then-w-gt9218868437227405312
+returns-then-w-gt9218868437227405312 c = c.not_a_number.ensures ∙ sym (above c.args.w c.if-w-gt9218868437227405312.true)
+
+float_from_bits-result : tie.Need-float_from_bits-result
+float_from_bits-result c = below c.args.w c.if-w-gt9218868437227405312.false
 
 returns : tie.Need-returns
-returns c = c.not-a-number.ensures ∙ sym (above c.before.before.args.w c.before.if1.true)
-
-float-from-bits-result : tie.Need-float-from-bits-result
-float-from-bits-result c = below c.before.args.w c.if1.false
-
-returns-2 : tie.Need-returns-2
-returns-2 c = search rules
+returns c = search rules
 
 pub word_to_float_spec : {M : Type 1} → statement M
-word_to_float_spec = tie.close (tie.spec not-a-number-requires returns float-from-bits-result returns-2)
+word_to_float_spec = tie.close (tie.spec not_a_number-requires returns-then-w-gt9218868437227405312 float_from_bits-result returns)

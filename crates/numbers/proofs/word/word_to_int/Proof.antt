@@ -11,28 +11,28 @@ use Rattle.numbers.proofs.WordLaws.{int_is, minus, int_down}
 use Rattle.numbers.proofs.word.word_to_int.Statement.{statement}
 use Rattle.numbers.proofs.word.word_to_int.Tie as tie
 
-cast-result : tie.Need-overflow-cast-result
-cast-result c = search rules
+overflow_cast-result : tie.Need-overflow_cast-result
+overflow_cast-result c = search rules
 
-returns : tie.Need-returns
-returns c = sym (int_is c.before.args.w)
+returns-then-w-lt9223372036854775808 : tie.Need-returns-then-w-lt9223372036854775808
+returns-then-w-lt9223372036854775808 c = sym (int_is c.args.w)
 
-sub-result : tie.Need-overflow-sub-result
-sub-result c = search rules
+overflow_sub-result : tie.Need-overflow_sub-result
+overflow_sub-result c = search rules
 
-cast-result-2 : tie.Need-overflow-cast-result-2
-cast-result-2 c = search rules
+overflow_cast-result-2 : tie.Need-overflow_cast-result-2
+overflow_cast-result-2 c = search rules
 
-fits : (c : tie.Else1) → SFits w64 (negsuc (18446744073709551615 - c.before.args.w))
+fits : (c : tie.Else-w-lt9223372036854775808) → SFits w64 (negsuc (18446744073709551615 - c.args.w))
 fits c = record { sfits = omega arith }
 
-sub-result-2 : tie.Need-overflow-sub-result-2
-sub-result-2 c = rw (to_z_pos w64 (fits c).sfits, minus (18446744073709551615 - c.before.args.w)) (fits c)
+overflow_sub-result-2 : tie.Need-overflow_sub-result-2
+overflow_sub-result-2 c = rw (to_z_pos w64 (fits c).sfits, minus (18446744073709551615 - c.args.w)) (fits c)
 
-returns-2 : tie.Need-returns-2
-returns-2 c =
-    let w = c.before.args.w in
-    rw (to_z_pos w64 (fits c).sfits, minus (18446744073709551615 - w), to_z-of_z (fits c)) (int_down w c.if1.false)
+returns : tie.Need-returns
+returns c =
+    let w = c.args.w in
+    rw (to_z_pos w64 (fits c).sfits, minus (18446744073709551615 - w), to_z-of_z (fits c)) (int_down w c.if-w-lt9223372036854775808.false)
 
 pub word_to_int_spec : {M : Type 1} → statement M
-word_to_int_spec = tie.close (tie.spec cast-result returns sub-result cast-result-2 sub-result-2 returns-2)
+word_to_int_spec = tie.close (tie.spec overflow_cast-result returns-then-w-lt9223372036854775808 overflow_sub-result overflow_cast-result-2 overflow_sub-result-2 returns)

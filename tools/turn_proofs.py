@@ -1,0 +1,192 @@
+#!/usr/bin/env python3
+"""Turns the names that Rattle makes in each proofs/F/Proof.antt of a crate to today's.
+
+usage, in a crate's folder:  rt check --generated /tmp/names --old-names; python3 ../../tools/turn_proofs.py /tmp/names/names.json [F ..]
+"""
+import json
+import os
+import re
+import sys
+
+WORD = r"[^\s(){}\[\],;.→λ|]+"
+PATH = re.compile(r"(?<![\w.'-])" + WORD + r"(?:\." + WORD + r")+")
+
+
+def norm(name):
+    name = name.replace("_", "-")
+    return re.sub(r"^(overflow|nonzero|bounds|shape-of)-", "", name)
+
+
+def lent(root):
+    """For each function of the repository, by its last name and crate, its parameters that are a &mut."""
+    found = {}
+    for base, dirs, files in os.walk(root):
+        dirs[:] = [d for d in dirs if d != "out"]
+        for f in files:
+            if f.endswith(".rt"):
+                crate = os.path.relpath(base, root).split("/")[0]
+                for m in re.finditer(r"\bfn (\w+)(?:<[^>]*>)?\(([^)]*)\)", open(os.path.join(base, f), encoding="utf-8").read()):
+                    names = [p.split(":")[0].strip() for p in m.group(2).split(",") if re.search(r":\s*&\s*('\w+ )?mut\b", p)]
+                    found[crate + "::" + m.group(1)] = names
+    return found
+
+
+class Place:
+    def __init__(self, old, new, base, step, callee, fields, arm):
+        self.old, self.new, self.base, self.step, self.callee = old, new, base, step, callee
+        self.fields, self.arm = dict(fields), arm
+
+
+class Names:
+    def __init__(self, j, lent):
+        self.lent, self.last = lent, {}
+        self.needs = {norm(o): n for o, n in j["needs"]}
+        self.at = {n: old for (_, n), (old, _) in zip(j["needs"], j["asked_at"])}
+        self.places = {}
+        for (old, base, step, callee, fields), new, arm in zip(j["places"], j["places_by_name"], j["arms"]):
+            self.places[norm(old)] = Place(old, new, norm(base) if base else None, step, callee, fields, arm)
+        self.loops = {norm(l[0][0]): l[0][1] for l in j["loops"]}
+        self.helpers = {}
+
+    def up(self, place):
+        while place:
+            p = self.places.get(norm(place))
+            if not p:
+                return
+            yield p
+            place = p.base
+
+    def depth(self, place, to):
+        for i, p in enumerate(self.up(place)):
+            if norm(p.old) == norm(to):
+                return i
+        return None
+
+    def fields_of(self, parts, place):
+        """The path of a field of a record of facts: parts has no variable and no 'before'."""
+        step = norm(parts[0])
+        chain = list(self.up(place)) if place else list(self.places.values())
+        for p in chain:
+            if p.arm:
+                best = None
+                for field, old, way in p.arm[2]:
+                    if norm(old) == step and parts[1:1 + len(way)] == way and (best is None or len(way) > len(best[1])):
+                        best = (field, way)
+                if best:
+                    return [p.arm[0], best[0]] + parts[1 + len(best[1]):]
+            if p.step[0] and norm(p.step[0]) == step:
+                out = [p.step[1]] + parts[1:]
+                if len(out) > 1:
+                    out[1] = p.fields.get(out[1], out[1])
+                if len(out) > 2 and out[1] in ("new", "auto") and out[2].isdigit() and p.callee:
+                    words = p.callee.split("::")
+                    names = self.lent.get(words[0] + "::" + words[-1], [])
+                    if int(out[2]) < len(names):
+                        out[2] = names[int(out[2])]
+                return out
+        return parts
+
+    def label(self, name):
+        """A name that tie has."""
+        if name.startswith("Need-"):
+            to = self.needs.get(norm(name[5:]))
+            return "Need-" + to if to else None
+        for word in ("invariant-", "decreases-"):
+            if name.startswith(word) and norm(name[len(word):]) in self.loops:
+                return word + self.loops[norm(name[len(word):])]
+        p = self.places.get(norm(name))
+        return p.new if p else None
+
+    def block(self, text):
+        """A declaration with its paths turned."""
+        m = re.match(r"(?:--.*\n)*(?:abbrev |pub |unfoldable )*(\S+) :(?: \(.*?\) →)? tie\.Need-(\S+)", text)
+        if not m:
+            m = None
+        where = {}
+        if m:
+            to = self.needs.get(norm(m.group(2)))
+            if to:
+                head = re.search(r"(?m)^" + re.escape(m.group(1)) + r"((?: \S+)+?) =", text)
+                if head:
+                    where[head.group(1).split()[0]] = self.at[to]
+        for h in re.finditer(r"\((\w+) : tie\.([^\s()]+)[^()]*\)", text):
+            if norm(h.group(2)) in self.places:
+                where[h.group(1)] = h.group(2)
+        only = set(where)
+        # What a let binds to a record of facts is that record.
+        while True:
+            m = re.search(r"let (\w+) = (\w+)((?:\.before)*) in ?\n?\s*", text)
+            if not m or m.group(2) not in where:
+                break
+            text = text[:m.start()] + re.sub(r"(?<![\w.'-])" + re.escape(m.group(1)) + r"(?=[.\s),\]])", m.group(2) + m.group(3), text[m.end():])
+        def path(m):
+            parts = m.group(0).split(".")
+            if parts[0] not in only:
+                return m.group(0)
+            i = 1
+            while i < len(parts) and parts[i] == "before":
+                i += 1
+            if i == len(parts):
+                return m.group(0)
+            return ".".join([parts[0]] + self.fields_of(parts[i:], where[parts[0]]))
+        text = PATH.sub(path, text)
+        def call(m):
+            d = self.depth(where[m.group(2)], self.helpers[m.group(1)]) if m.group(2) in where else None
+            return m.group(0) if d is None else m.group(1) + " " + m.group(2) + ".before" * d
+        for name in self.helpers:
+            text = re.sub(r"(?<![\w.'-])(" + re.escape(name) + r") (\w+)((?:\.before)*)(?=[\s),\]])(?! :)", call, text)
+        return text
+
+    def turn(self, text, said):
+        own = {}
+        for m in re.finditer(r"(?m)^(?:abbrev |pub |unfoldable )*(\S+) :(?: \(.*?\) →)? tie\.(\S+)", text):
+            to = self.label(m.group(2))
+            if to and (m.group(2).startswith("Need-") or m.group(2).startswith(("invariant", "decreases"))):
+                own[m.group(1)] = to[5:] if to.startswith("Need-") else to
+        for m in re.finditer(r"(?m)^(\S+) : (?:\{.*?\} → )?\((\w+) : tie\.([^\s()]+)[^()]*\)", text):
+            self.helpers[m.group(1)] = m.group(3)
+        text = "\n\n".join(self.block(b) for b in text.split("\n\n"))
+        def tie(m):
+            to = self.label(m.group(1))
+            if not to and m.group(1) not in ("spec", "close"):
+                said.append(m.group(1))
+            return "tie." + (to or m.group(1))
+        text = re.sub(r"\btie\.([^\s(){},;.]+)", tie, text)
+        def name(m):
+            return own.get(m.group(0), m.group(0))
+        lines = []
+        for line in text.split("\n"):
+            if line.startswith(("use ", "--")):
+                lines.append(line)
+            else:
+                lines.append(re.sub(r"(?<![^\s(){}\[\],;])[^\s(){}\[\],;.]+(?![^\s(){}\[\],;])", name, line))
+        return "\n".join(lines)
+
+
+def main(file, only):
+    j = json.load(open(file, encoding="utf-8"))
+    by_function = lent("..")
+    for base, dirs, files in os.walk("proofs"):
+        for f in files:
+            if f != "Proof.antt" and not base.endswith("/Proof"):
+                continue
+            folder = base[:-6] if base.endswith("/Proof") else base
+            path = os.path.relpath(folder, "proofs").replace("/", ".")
+            if only and path not in only:
+                continue
+            keys = [k for k in j if k.endswith("-proofs." + path + ".Lts")]
+            if not keys:
+                print(f"{folder}: no names")
+                continue
+            p = os.path.join(base, f)
+            text = open(p, encoding="utf-8").read()
+            said = []
+            made = Names(j[keys[0]], by_function).turn(text, said)
+            for s in said:
+                print(f"{p}: tie.{s} is unknown")
+            if made != text:
+                open(p, "w", encoding="utf-8").write(made)
+
+
+if __name__ == "__main__":
+    main(sys.argv[1], sys.argv[2:])
