@@ -13,7 +13,7 @@ PATH = re.compile(r"(?<![\w.'-])" + WORD + r"(?:\." + WORD + r")+")
 
 
 def norm(name):
-    name = name.replace("_", "-")
+    name = re.sub(r"^slice-bounds-", "part-", name.replace("_", "-"))
     return re.sub(r"^(overflow|nonzero|bounds|shape-of)-", "", name)
 
 
@@ -46,7 +46,15 @@ class Names:
         for (old, base, step, callee, fields), new, arm in zip(j["places"], j["places_by_name"], j["arms"]):
             self.places[norm(old)] = Place(old, new, norm(base) if base else None, step, callee, fields, arm)
         self.loops = {norm(l[0][0]): l[0][1] for l in j["loops"]}
-        self.helpers = {}
+        self.helpers, self.shifted = {}, set()
+
+    def shift(self, text):
+        """Calls that were counted from 2, since the first one's name was taken."""
+        steps = {norm(p.step[0]) for p in self.places.values()}
+        used = {norm(x) for x in re.findall(r"\.([\w-]+)", text)}
+        for m in (re.fullmatch(r"(.*\D)(\d+)", u) for u in used):
+            if m and m.group(1) not in used and m.group(0) not in steps and (m.group(1) if m.group(2) == "2" else m.group(1) + str(int(m.group(2)) - 1)) in steps:
+                self.shifted.add(m.group(1))
 
     def up(self, place):
         while place:
@@ -65,6 +73,12 @@ class Names:
     def fields_of(self, parts, place):
         """The path of a field of a record of facts: parts has no variable and no 'before'."""
         step = norm(parts[0])
+        m = re.fullmatch(r"(.*\D)(\d+)", step)
+        if m and m.group(1) in self.shifted:
+            step = m.group(1) if m.group(2) == "2" else m.group(1) + str(int(m.group(2)) - 1)
+        known = {norm(p.step[0]) for p in self.places.values()}
+        if step not in known and re.sub(r"(-lem)+$", "", step) in known:
+            step = re.sub(r"(-lem)+$", "", step)
         chain = list(self.up(place)) if place else list(self.places.values())
         for p in chain:
             if p.arm:
@@ -138,6 +152,7 @@ class Names:
         return text
 
     def turn(self, text, said):
+        self.shift(text)
         own = {}
         for m in re.finditer(r"(?m)^(?:abbrev |pub |unfoldable )*(\S+) :(?: \(.*?\) →)? tie\.(\S+)", text):
             to = self.label(m.group(2))

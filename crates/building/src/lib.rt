@@ -106,7 +106,7 @@ pub fn make_object(
 }
 
 // Whether a value prints in a template, and if not, why.
-#[derive(Drop)]
+#[derive(Clone, Copy)]
 pub enum Judged {
     Prints,
     Refused(Refusal),

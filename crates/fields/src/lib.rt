@@ -5,7 +5,7 @@ ghost use Rattle.std.specs.Prelude.{◌≡◌, ltb, ◌+◌, ◌-◌, ◌*◌, �
 ghost use Rattle.fields.specs.Field.{field_of, is_within, read_of, Put, Wrote, Mixed};
 
 // What a read finds: the field's number, or that the bytes do not have it whole.
-#[derive(Drop)]
+#[derive(Clone, Copy)]
 pub enum Read {
     Is(u64),
     Outside,

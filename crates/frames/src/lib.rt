@@ -6,7 +6,7 @@ pub mod loops; // conditions and passes
 pub mod scopes; // a scope left
 
 // What a condition told; or it is out.
-#[derive(Drop)]
+#[derive(Clone, Copy)]
 pub enum Told {
     Holds,
     Fails,

@@ -3,7 +3,7 @@ use mathlib.Core.Path.{◌≡◌, refl, sym, ap, ◌∙◌, subst}
 use mathlib.Core.List.{List, [], ◌∷◌}
 use Prim.Native.Nat.{ℕ, ◌+◌, ◌-◌, ◌≤◌}
 use native.Mathlib.Omega.{arith}
-use borrow.Author.Rules.{zero≤}
+use Rattle.std.proofs.Common.{zero-le}
 use lib.ListN.{length}
 use Rattle.packed.specs.declared.layout.Header.{Header}
 use Rattle.packed.specs.Layout.{size_of}
@@ -48,7 +48,7 @@ fresh_ready {image} {h} budget loaded w b =
       loaded = loaded;
       first = (header_right image h loaded).root_node.0;
       last = (header_right image h loaded).root_node.1;
-      fits = record { run_length = refl; words_length = omega (arith, w); bindings = zero≤; pending = zero≤; cells = zero≤; text = zero≤ };
+      fits = record { run_length = refl; words_length = omega (arith, w); bindings = zero-le; pending = zero-le; cells = zero-le; text = zero-le };
       room = b;
     }
 

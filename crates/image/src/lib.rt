@@ -9,7 +9,7 @@ use records::{bad_record, is_node};
 use tree::lowest_fault;
 
 // What loading finds: the image's numbers, or the refusal with its place.
-#[derive(Drop)]
+#[derive(Clone, Copy)]
 pub enum Loaded {
     // the image loads
     Image(Header),

@@ -3,7 +3,7 @@ ghost use Rattle.std.specs.Prelude.{◌≡◌};
 ghost use Rattle.kinds.specs.Kinds.{is_within, is_of, row as rowWith, row_of};
 
 // The kinds that a reference may go to.
-#[derive(Drop)]
+#[derive(Clone, Copy)]
 pub enum Class {
     Expression,
     Component,
@@ -15,7 +15,7 @@ pub enum Class {
 }
 
 // What a field holds.
-#[derive(Drop)]
+#[derive(Clone, Copy)]
 pub enum Role {
     // nothing: it is 0
     Unlisted,
@@ -82,7 +82,7 @@ pub fn is_of(class: Class, kind: u8) -> bool
 }
 
 // A line of the table: how many ops the kind has, and what tag, a and b hold.
-#[derive(Drop)]
+#[derive(Clone, Copy)]
 pub struct KindRow {
     pub ops: u8,
     pub tag: Role,

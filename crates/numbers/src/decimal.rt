@@ -6,7 +6,7 @@ ghost use Rattle.numbers.specs.Decimal.{digits_of, decimal_of, put_of, end_of};
 use crate::int::unsigned_abs;
 
 // Where a text that was put ends, or that there is no room for it.
-#[derive(Drop)]
+#[derive(Clone, Copy)]
 pub enum Put {
     End(usize),
     NoRoom,

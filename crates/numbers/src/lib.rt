@@ -11,7 +11,7 @@ ghost use Rattle.numbers.specs.Floats.{binary_float_of};
 use int::{checked_add, checked_div, checked_mul, checked_shl, checked_shr, checked_sub};
 
 // An arithmetic refusal: 16, 17 and 18.
-#[derive(Drop)]
+#[derive(Clone, Copy)]
 pub enum ArithRefusal {
     Overflow,
     Division,
@@ -19,7 +19,7 @@ pub enum ArithRefusal {
 }
 
 // What an operation on two i64 gives. `Unlisted` answers an assigning op above 5: no loaded image has one.
-#[derive(Drop)]
+#[derive(Clone, Copy)]
 pub enum Arith {
     Value(i64),
     Refused(ArithRefusal),
@@ -28,7 +28,7 @@ pub enum Arith {
 
 // What a binary operation on two numbers gives. `NotConst` is 12. `Unlisted` answers an op above 10: no loaded image has
 // one.
-#[derive(Drop)]
+#[derive(Clone, Copy)]
 pub enum Binary {
     Signed(i64),
     Float(f64),

@@ -2,7 +2,7 @@
 use rules::{Refusal, Value};
 
 // What an expression comes to: a value; a break, by its node and value; a refusal and its place; or the node at which the next take is refused.
-#[derive(Drop)]
+#[derive(Clone, Copy)]
 pub enum Outcome {
     Done(Value),
     Broke(u16, Value),
@@ -11,7 +11,7 @@ pub enum Outcome {
 }
 
 // Part of an expression is done and it goes on; or it is out, and the outcome is the whole expression's.
-#[derive(Drop)]
+#[derive(Clone, Copy)]
 pub enum Progress {
     On,
     Out(Outcome),

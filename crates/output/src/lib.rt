@@ -20,7 +20,7 @@ use stores::run::TEXT;
 use texts::sources_of;
 
 // What was written: so many bytes, or nothing and why.
-#[derive(Drop)]
+#[derive(Clone, Copy)]
 pub enum Written {
     Length(usize),
     Nested,

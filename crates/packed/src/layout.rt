@@ -4,7 +4,7 @@ ghost use Rattle.packed.specs.Layout.{header_of, nodes_at, literals_at, text_at,
 
 use fields::{cut, half_at, pair_at, word_at};
 
-#[derive(Drop)]
+#[derive(Clone, Copy)]
 pub struct Header {
     pub edition: u8,
     pub functions: u8,
@@ -14,7 +14,7 @@ pub struct Header {
     pub root: u16,
 }
 
-#[derive(Drop)]
+#[derive(Clone, Copy)]
 pub struct Function {
     pub body: u16,
     pub count: u8,
@@ -22,7 +22,7 @@ pub struct Function {
     pub zero: u8,
 }
 
-#[derive(Drop)]
+#[derive(Clone, Copy)]
 pub struct Node {
     pub kind: u8,
     pub op: u8,
@@ -33,7 +33,7 @@ pub struct Node {
     pub zero: u16,
 }
 
-#[derive(Drop)]
+#[derive(Clone, Copy)]
 pub struct Literal {
     pub kind: u8,
     pub zero: u16,
@@ -41,7 +41,7 @@ pub struct Literal {
 }
 
 // The part of the text that a literal of kind 6 or 7 names.
-#[derive(Drop)]
+#[derive(Clone, Copy)]
 pub struct Part {
     pub zero: u32,
     pub start: u16,

@@ -9,7 +9,7 @@ ghost use Rattle.pouring.specs.Pouring.{Pours, Puts, spot_at, filled, byte_bits}
 use fields::cut;
 
 // Where the next bit goes, or why there is no place for it.
-#[derive(Drop)]
+#[derive(Clone, Copy)]
 pub enum Spot {
     At(usize, u32),
     Nested,

@@ -4,7 +4,7 @@ use mathlib.Core.Bool.{true}
 use mathlib.Core.List.{List}
 use Prim.Native.Nat.{ℕ, ◌+◌, ◌-◌, ◌≤◌, ◌<◌}
 use native.Mathlib.Omega.{arith}
-use borrow.Author.Rules.{zero≤}
+use Rattle.std.proofs.Common.{zero-le}
 use borrow.Author.Tests.{not-false, lt-ltb, le-ltb}
 use Rattle.packed.specs.declared.layout.Header.{Header}
 use Rattle.records.specs.declared.first.Found.{Found}
@@ -23,7 +23,7 @@ module _ (image : List ℕ) (h : Header) (none : bad_record image h ≡ Nowhere)
   unfolding bad_record
   record_good_lem r l =
       let never = nowhere (record_bad image h) 0 (records_in h) (placed_nowhere (record_offset h) (first_from (record_bad image h) 0 (records_in h)) none) in
-      not-false (record_good image h r) (never r zero≤ (omega arith))
+      not-false (record_good image h r) (never r zero-le (omega arith))
 
   pub function_good_lem : (f : ℕ) → f < h.functions → function_good h (function_at image f) ≡ true
   unfolding record_good

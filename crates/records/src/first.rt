@@ -1,5 +1,5 @@
 // The answer of a search: the first place, or that there is none.
-#[derive(Drop)]
+#[derive(Clone, Copy)]
 pub enum Found {
     At(usize),
     Nowhere,

@@ -7,7 +7,7 @@ use Prim.Native.Nat.{ℕ, zero, suc, ◌+◌, ◌*◌, ◌≤◌}
 use native.Mathlib.Omega.{arith}
 use native.Mathlib.Nat.{add-zero}
 use mathlib.Core.Logic.{⊎_elim}
-use borrow.Author.Rules.{zero≤}
+use Rattle.std.proofs.Common.{zero-le}
 use borrow.Author.Tests.{eqb-true, eqb-false, ltb-true, ltb-false}
 use Rattle.rules.proofs.Going.{iter_add, costs_add}
 use Rattle.rules.proofs.Running.{cost_bit}
@@ -322,7 +322,7 @@ right_so e t =
       loads = image_so image (load_of image) refl both.0;
       answers = λ out long.
           by_run e out long (run e)
-          (sound image h c e.budget 200 0 c _ _ _ refl refl refl (record { transitions = 0; there = refl; takes = refl }) zero≤)
+          (sound image h c e.budget 200 0 c _ _ _ refl refl refl (record { transitions = 0; there = refl; takes = refl }) zero-le)
           both.1;
     }
 

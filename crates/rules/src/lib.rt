@@ -6,7 +6,7 @@ use numbers::ArithRefusal;
 
 // A value while a constant is worked out. Text is a place and a length in the image's text and, after it, the text that was built in this
 // run; bytes stand in the image's text. A vec, a tuple and an object are shared: the value is the number of the cell that heads them.
-#[derive(Drop)]
+#[derive(Clone, Copy)]
 pub enum Value {
     Unit,
     Bool(bool),
@@ -22,7 +22,7 @@ pub enum Value {
 }
 
 // Why evaluation or output is refused. The budget is not among them: the rules know none.
-#[derive(Drop)]
+#[derive(Clone, Copy)]
 pub enum Refusal {
     // 7 to 11: depth, cells, text bytes, bindings, pending items
     Depth,
@@ -51,14 +51,14 @@ pub enum Refusal {
 }
 
 // What a target being read gives, and what a node makes of its operands: a value, or a refusal and its place.
-#[derive(Drop)]
+#[derive(Clone, Copy)]
 pub enum Got {
     Is(Value),
     Not(Refusal, u16),
 }
 
 // Where a target being written stands: a binding, a cell, a field that its object (by its head) does not have yet, or nowhere.
-#[derive(Drop)]
+#[derive(Clone, Copy)]
 pub enum Place {
     Binding(usize),
     Cell(usize),
@@ -99,7 +99,7 @@ impl Refusal {
 }
 
 // The answer of one call.
-#[derive(Drop)]
+#[derive(Clone, Copy)]
 pub enum Answer {
     // a value was written: its length in bytes, and the steps taken
     Value(usize, u64),

@@ -8,7 +8,7 @@ use rules::Value;
 
 pub mod literals; // literals of the image
 
-#[derive(Drop)]
+#[derive(Clone, Copy)]
 pub struct Slot {
     pub kind: u64,
     pub payload: u64,

@@ -3,7 +3,7 @@ pub mod pending; // pending items
 pub mod run; // the run's numbers
 
 // What was sought, by its number.
-#[derive(Drop)]
+#[derive(Clone, Copy)]
 pub enum Found {
     At(usize),
     Nothing,

@@ -15,7 +15,7 @@ use slots::literals::key_of;
 use stores::Found;
 
 // What a write comes to.
-#[derive(Drop)]
+#[derive(Clone, Copy)]
 pub enum Written {
     Done,
     Refused(Refusal, u16),

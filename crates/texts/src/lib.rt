@@ -17,14 +17,14 @@ use slots::{length_of, start_of};
 use stores::run::TEXT;
 
 // Bytes of a slice: from which on, and how many.
-#[derive(Drop)]
+#[derive(Clone, Copy)]
 struct Span {
     from: usize,
     count: usize,
 }
 
 // Where the bytes of a text stand: first in the image, then among those that were built.
-#[derive(Drop)]
+#[derive(Clone, Copy)]
 pub struct Sources {
     pub image_from: usize,
     pub image_count: usize,

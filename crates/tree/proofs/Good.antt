@@ -3,7 +3,7 @@ use mathlib.Core.Path.{◌≡◌}
 use mathlib.Core.Bool.{true, false, ◌&&◌}
 use mathlib.Core.List.{List}
 use Prim.Native.Nat.{ℕ, ◌≤◌, ◌<◌}
-use borrow.Author.Rules.{zero≤}
+use Rattle.std.proofs.Common.{zero-le}
 use borrow.Author.Tests.{leb-true, ltb-true, eqb-true}
 use lib.Dec.{leb, ltb, eqb}
 use Rattle.fields.proofs.Tests.{and_both}
@@ -49,10 +49,10 @@ good_node image h d e =
 -- what a field names is there
 pub fits_named : (image : List ℕ) (h : Header) (role : Role) (x : ℕ) → fits image h role x ≡ true → named role x ≤ h.nodes
 unfolding fits
-fits_named image h Unlisted x e = zero≤
-fits_named image h Number x e = zero≤
-fits_named image h Literal x e = zero≤
-fits_named image h Text x e = zero≤
-fits_named image h Function x e = zero≤
+fits_named image h Unlisted x e = zero-le
+fits_named image h Number x e = zero-le
+fits_named image h Literal x e = zero-le
+fits_named image h Text x e = zero-le
+fits_named image h Function x e = zero-le
 fits_named image h (NodeRole true heads class) x e = leb-true x h.nodes (and_both (ltb 0 x) (leb x h.nodes) e).1
 fits_named image h (NodeRole false heads class) x e = leb-true x h.nodes e

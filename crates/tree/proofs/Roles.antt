@@ -5,7 +5,7 @@ use Prim.Native.Nat.{ℕ, ◌≤◌}
 use native.Mathlib.Nat.{le_refl}
 use types.Run.{OneOf, miss}
 use denote.Enum.Declared.{tag_of}
-use borrow.Author.Rules.{zero≤}
+use Rattle.std.proofs.Common.{zero-le}
 use Rattle.kinds.specs.contracts.Role.{the_type}
 use Rattle.kinds.specs.declared.Role.{Role}
 use Rattle.kinds.specs.declared.Role.TheVariants.{Unlisted, Number, Literal, Text, Function, Node}
@@ -22,9 +22,9 @@ no_node f r u n l t g Function k = g
 no_node f r u n l t g (Node x y z) k = absurd (miss (0 ∷ 1 ∷ 2 ∷ 3 ∷ 4 ∷ []) 5 tt k)
 
 pub named_le : (role : Role) (x : ℕ) → named role x ≤ x
-named_le Unlisted x = zero≤
-named_le Number x = zero≤
-named_le Literal x = zero≤
-named_le Text x = zero≤
-named_le Function x = zero≤
+named_le Unlisted x = zero-le
+named_le Number x = zero-le
+named_le Literal x = zero-le
+named_le Text x = zero-le
+named_le Function x = zero-le
 named_le (Node needed heads class) x = le_refl x

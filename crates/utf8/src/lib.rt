@@ -7,7 +7,7 @@ ghost use Rattle.utf8.specs.Runs.{stop_of, Stops};
 
 // What the first byte of a character tells: how many bytes the character has, and the least and the greatest that the second one
 // may be.
-#[derive(Drop)]
+#[derive(Clone, Copy)]
 struct Lead(usize, u8, u8);
 
 // RFC 3629, section 4, an arm for each row of its table. With a byte of the last arm no character starts.

@@ -51,7 +51,7 @@ returns-3 c =
     let start = first.before.before.before.before in
     let x : SFits w64 first.left.given.0.0 = search rules in
     let y : SFits w64 second.right.given.0.0 = search rules in
-    signeds _ _ _ start.args.left start.args.right _ read.Node-at.ensures first.left.given.1 second.right.given.1
+    signeds _ _ _ start.args.left start.args.right _ read.node_at.ensures first.left.given.1 second.right.given.1
     (rw (c.of-numbers.ensures, c.before.Binary-int.ensures, to_z-of_z x, to_z-of_z y))
 
 pub binary_of_spec : {M : Type 1} → statement M

@@ -46,7 +46,7 @@ returns-3 c =
     let second = read.before.before in
     let first = second.before.before.before in
     let start = first.before.before.before.before in
-    floats _ _ _ start.args.left start.args.right _ read.Node-at.ensures first.left.given.1 second.right.given.1
+    floats _ _ _ start.args.left start.args.right _ read.node_at.ensures first.left.given.1 second.right.given.1
     (rw (c.of-numbers.ensures, c.before.Binary-float.ensures))
 
 pub float_pair_spec : {M : Type 1} → statement M

@@ -32,7 +32,7 @@ returns-3 c =
     let second = read.before.before in
     let first = second.before.before.before in
     let start = first.before.before.before.before in
-    no_join _ _ _ start.args.left start.args.right _ read.Node-at.ensures first.left.given.1 second.right.given.1 c.if1.true
+    no_join _ _ _ start.args.left start.args.right _ read.node_at.ensures first.left.given.1 second.right.given.1 c.if1.true
 
 join-requires : tie.Need-join-requires
 join-requires c κs =
@@ -51,7 +51,7 @@ returns-4 c =
     let second = read.before.before in
     let first = second.before.before.before in
     let start = first.before.before.before.before in
-    joins _ _ _ start.args.left start.args.right _ read.Node-at.ensures first.left.given.1 second.right.given.1 plus.if1.false call.join.ensures
+    joins _ _ _ start.args.left start.args.right _ read.node_at.ensures first.left.given.1 second.right.given.1 plus.if1.false call.join.ensures
 
 pub text_pair_spec : {M : Type 1} → statement M
 text_pair_spec =

@@ -51,7 +51,7 @@ node-at-requires c κs =
 loop-holds : tie.Need-loop-init invariant-loop decreases-loop
 loop-holds c =
     let start = c.before.before.before.before in
-    rw c.Node-at.ensures (printing_begins _ _ _ _ _ _ _ _ start.requires.0 start.requires.3)
+    rw c.node_at.ensures (printing_begins _ _ _ _ _ _ _ _ start.requires.0 start.requires.3)
 
 cast-node-at : tie.Need-overflow-cast-node-at invariant-loop decreases-loop
 cast-node-at c =

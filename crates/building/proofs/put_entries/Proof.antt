@@ -22,7 +22,7 @@ node-at-requires c κs =
     (start.requires.0.first, start.requires.0.last, size_right _ _ start.requires.0.loaded)
 
 loop-holds : tie.Need-loop-init invariant-loop decreases-loop
-loop-holds c = rw c.Node-at.ensures (entering_begins _ _ _ _ _ _ _ c.before.before.before.requires.1)
+loop-holds c = rw c.node_at.ensures (entering_begins _ _ _ _ _ _ _ c.before.before.before.requires.1)
 
 same_length : tie.Need-same-length invariant-loop decreases-loop
 same_length c =

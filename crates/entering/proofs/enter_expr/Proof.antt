@@ -17,7 +17,7 @@ take-requires c κs = search rules
 
 returns : tie.Need-returns
 returns c =
-    let kinds = ap (λ (d : Node). takes_by d.kind) c.before.before.before.Node-at.ensures in
+    let kinds = ap (λ (d : Node). takes_by d.kind) c.before.before.before.node_at.ensures in
     entered_by (of_expression _ _ _ _ _ (c.before.before.Takes-of.ensures ∙ kinds)) c.take.ensures
 
 pub enter_expr_spec : {M : Type 1} → statement M

@@ -28,7 +28,7 @@ module _ (s : tie.Start) where
 -- past the second test, the third and the records decide
 sized : (c : tie.Else2) → let s = c.before.before.before.before.before in asked s ≡ cond (not (is_node s.args.h.nodes s.args.h.root)) BadHeader (by_records_lem s)
 unfolding judged
-sized c = rw (eq-eqb _ _ c.before.before.if1.false, eq-eqb _ _ (c.if2.false ∙ c.before.type_size.ensures))
+sized c = rw (eq-eqb _ _ c.before.before.if1.false, eq-eqb _ _ (c.if2.false ∙ c.before.size_of.ensures))
 
 -- past the third, the records
 rooted : (c : tie.Else3) → let s = c.before.before.before.before.before.before.before in asked s ≡ by_records_lem s
@@ -47,7 +47,7 @@ size-of-requires c κs = search rules
 
 returns-2 : tie.Need-returns-2
 unfolding judged
-returns-2 c = rw (eq-eqb _ _ c.before.before.if1.false, sym c.before.type_size.ensures, ne_eqb _ _ c.if2.true)
+returns-2 c = rw (eq-eqb _ _ c.before.before.if1.false, sym c.before.size_of.ensures, ne_eqb _ _ c.if2.true)
 
 is-node-requires : tie.Need-is-node-requires
 is-node-requires c κs = search rules
@@ -69,7 +69,7 @@ lowest-fault-requires c κs =
     let a = c.before.before.before.before.before.before.before.before.before.before.args in
     let b = header_below a.image.now a.h c.before.before.before.before.before.before.before.before.before.before.requires in
     let none = sym c.before.before.bad-record.ensures ∙ c.enum_told.given.1 in
-    (b.1, le_of_eq (sym c.before.before.before.before.before.before.type_size.ensures ∙ sym c.before.before.before.before.before.if2.false), record { few = b.0; good = node_good_lem a.image.now a.h none })
+    (b.1, le_of_eq (sym c.before.before.before.before.before.before.size_of.ensures ∙ sym c.before.before.before.before.before.if2.false), record { few = b.0; good = node_good_lem a.image.now a.h none })
 
 enum-known-n : tie.Need-enum-known-n
 enum-known-n c = search rules

@@ -18,7 +18,7 @@ returns : tie.Need-returns
 returns c =
     let judged = c.before.before.before in
     let read = judged.before in
-    item_refused _ _ _ _ read.Node-at.ensures judged.judge.ensures c.before.why.given.1 read.before.before.before.requires.1
+    item_refused _ _ _ _ read.node_at.ensures judged.judge.ensures c.before.why.given.1 read.before.before.before.requires.1
 
 enum_told : tie.Need-enum-told
 enum_told c = search rules
@@ -35,7 +35,7 @@ returns-2 c =
     let prints = pushed.before.before.before in
     let judged = prints.before.before in
     let read = judged.before in
-    item_pending _ _ _ _ read.Node-at.ensures judged.judge.ensures prints.enum_told.given.1 pushed.push.ensures c.if1.true
+    item_pending _ _ _ _ read.node_at.ensures judged.judge.ensures prints.enum_told.given.1 pushed.push.ensures c.if1.true
 
 same-length-2 : tie.Need-same-length-2
 same-length-2 c = search rules
@@ -46,7 +46,7 @@ returns-3 c =
     let prints = pushed.before.before.before in
     let judged = prints.before.before in
     let read = judged.before in
-    pending_full _ _ _ _ read.Node-at.ensures judged.judge.ensures prints.enum_told.given.1 pushed.push.ensures c.if1.false
+    pending_full _ _ _ _ read.node_at.ensures judged.judge.ensures prints.enum_told.given.1 pushed.push.ensures c.if1.false
 
 pub accept_spec : {M : Type 1} → statement M
 accept_spec =

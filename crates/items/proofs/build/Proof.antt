@@ -15,7 +15,7 @@ make-template-requires : tie.Need-make-template-requires
 make-template-requires c κs =
     let arm = c.before.before.before in
     let start = arm.before.before.before.before.before in
-    (of_kind start.requires.0 _ arm.before.Node-at.ensures arm.match.keys1, start.requires.2, start.requires.3)
+    (of_kind start.requires.0 _ arm.before.node_at.ensures arm.match.keys1, start.requires.2, start.requires.3)
 
 made-requires : tie.Need-made-requires
 made-requires c κs = search rules
@@ -36,7 +36,7 @@ make-object-requires : tie.Need-make-object-requires
 make-object-requires c κs =
     let arm = c.before.before in
     let start = arm.before.before.before.before.before in
-    (of_kind start.requires.0 _ arm.before.Node-at.ensures arm.match.keys4, start.requires.2)
+    (of_kind start.requires.0 _ arm.before.node_at.ensures arm.match.keys4, start.requires.2)
 
 made-requires-4 : tie.Need-made-requires-4
 made-requires-4 c κs = search rules
@@ -52,7 +52,7 @@ unfolding kind_of kinds
 returns c =
     let call = c.before.before.before in
     let arm = call.before.before.before.before in
-    template_done _ arm.before.Node-at.ensures (ap kind_of arm.match.keys1) call.make-template.ensures c.made.ensures
+    template_done _ arm.before.node_at.ensures (ap kind_of arm.match.keys1) call.make-template.ensures c.made.ensures
 
 same-length-3 : tie.Need-same-length-3
 same-length-3 c = search rules
@@ -62,7 +62,7 @@ unfolding kind_of kinds
 returns-2 c =
     let call = c.before.before.before in
     let arm = call.before.before.before in
-    box_done _ arm.before.Node-at.ensures vecs (ap kind_of arm.match.keys2) call.make-vec.ensures c.made2.ensures
+    box_done _ arm.before.node_at.ensures vecs (ap kind_of arm.match.keys2) call.make-vec.ensures c.made2.ensures
 
 same-length-4 : tie.Need-same-length-4
 same-length-4 c = search rules
@@ -72,7 +72,7 @@ unfolding kind_of kinds
 returns-3 c =
     let call = c.before.before.before in
     let arm = call.before.before.before in
-    box_done _ arm.before.Node-at.ensures tuples (ap kind_of arm.match.keys3) call.make-tuple.ensures c.made3.ensures
+    box_done _ arm.before.node_at.ensures tuples (ap kind_of arm.match.keys3) call.make-tuple.ensures c.made3.ensures
 
 same-length-5 : tie.Need-same-length-5
 same-length-5 c = search rules
@@ -82,10 +82,10 @@ unfolding kind_of kinds
 returns-4 c =
     let call = c.before.before.before in
     let arm = call.before.before.before in
-    object_done _ arm.before.Node-at.ensures (ap kind_of arm.match.keys4) call.make-object.ensures c.made4.ensures
+    object_done _ arm.before.node_at.ensures (ap kind_of arm.match.keys4) call.make-object.ensures c.made4.ensures
 
 returns-5 : tie.Need-returns-5
-returns-5 c = absurd (no_other c.before.before.before.before.before.requires.1 (rw c.before.Node-at.ensures at c.match.rest))
+returns-5 c = absurd (no_other c.before.before.before.before.before.requires.1 (rw c.before.node_at.ensures at c.match.rest))
 
 pub build_spec : {M : Type 1} → statement M
 build_spec =

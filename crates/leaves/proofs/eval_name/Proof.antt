@@ -23,13 +23,13 @@ enum_told c = search rules
 returns : tie.Need-returns
 returns c =
     let start = c.before.before.before.before.before.before.before.before in
-    name_bound start.args.depth start.requires.1 start.requires.0 _ c.before.before.before.before.before.Node-at.ensures _
+    name_bound start.args.depth start.requires.1 start.requires.0 _ c.before.before.before.before.before.node_at.ensures _
     c.before.before.before.before.look_up.ensures _ c.before.before.i.given.1 _ c.bound_at.ensures
 
 returns-2 : tie.Need-returns-2
 returns-2 c =
     let start = c.before.before.before.before.before.before in
-    name_missing start.args.depth start.requires.1 start.requires.0 _ c.before.before.before.Node-at.ensures _ c.before.before.look_up.ensures
+    name_missing start.args.depth start.requires.1 start.requires.0 _ c.before.before.before.node_at.ensures _ c.before.before.look_up.ensures
     c.enum_told.given.1
 
 pub eval_name_spec : {M : Type 1} → statement M

@@ -10,12 +10,12 @@ node-at-requires c κs = node_there (as_node c.before.before.requires.0)
 literal-value-requires : tie.Need-literal-value-requires
 literal-value-requires c κs =
     let start = c.before.before.before in
-    (rw c.Node-at.ensures (value_names start.requires.0), (node_there (as_node start.requires.0)).2)
+    (rw c.node_at.ensures (value_names start.requires.0), (node_there (as_node start.requires.0)).2)
 
 returns : tie.Need-returns
 returns c =
     let start = c.before.before.before.before in
-    value_given start.args.depth start.requires.1 start.requires.0 _ c.before.Node-at.ensures _ c.literal-value.ensures
+    value_given start.args.depth start.requires.1 start.requires.0 _ c.before.node_at.ensures _ c.literal-value.ensures
 
 pub eval_value_spec : {M : Type 1} → statement M
 eval_value_spec = tie.close (tie.spec node-at-requires literal-value-requires returns)

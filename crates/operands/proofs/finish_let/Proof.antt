@@ -22,7 +22,7 @@ returns-2 c =
     let read = c.before.before in
     let value = read.before.before in
     let start = value.before.before.before.before in
-    after_value value.one.given.1 (let_holds _ _ _ _ read.Node-at.ensures start.requires.1 c.if1.true)
+    after_value value.one.given.1 (let_holds _ _ _ _ read.node_at.ensures start.requires.1 c.if1.true)
 
 declare-requires : tie.Need-declare-requires
 declare-requires c κs = search rules
@@ -40,7 +40,7 @@ returns-3 c =
     let read = bind.before.before in
     let value = read.before.before in
     after_value value.one.given.1
-    (let_done _ _ _ _ read.Node-at.ensures bind.if1.false call.declare.ensures c.bound.ensures)
+    (let_done _ _ _ _ read.node_at.ensures bind.if1.false call.declare.ensures c.bound.ensures)
 
 pub finish_let_spec : {M : Type 1} → statement M
 finish_let_spec =

@@ -12,70 +12,68 @@ use Rattle.records.proofs.Search.{start, here, on, done}
 use Rattle.records.proofs.bad_record.Statement.{statement}
 use Rattle.records.proofs.bad_record.Tie as tie
 
-abbrev invariant-loop : tie.invariant-loop
-invariant-loop image h records stops r₀ r = (r ≤ records) × (records ≡ records_in h) × (first_from (record_bad image h) 0 records ≡ first_from (record_bad image h) r (records - r))
+abbrev invariant-loop-r : tie.invariant-loop-r
+invariant-loop-r image h records stops r₀ r = (r ≤ records) × (records ≡ records_in h) × (first_from (record_bad image h) 0 records ≡ first_from (record_bad image h) r (records - r))
 
-abbrev decreases-loop : tie.decreases-loop
-decreases-loop image h records stops r₀ r = records - r
+abbrev decreases-loop-r : tie.decreases-loop-r
+decreases-loop-r image h records stops r₀ r = records - r
 
-cast-records : tie.Need-overflow-cast-records invariant-loop decreases-loop
-cast-records c = search rules
+overflow_cast-records : tie.Need-overflow_cast-records invariant-loop-r decreases-loop-r
+overflow_cast-records c = search rules
 
-cast-records-2 : tie.Need-overflow-cast-records-2 invariant-loop decreases-loop
-cast-records-2 c = search rules
+overflow_cast-records-2 : tie.Need-overflow_cast-records-2 invariant-loop-r decreases-loop-r
+overflow_cast-records-2 c = search rules
 
-add-records : tie.Need-overflow-add-records invariant-loop decreases-loop
-add-records c = search rules
+overflow_add-records : tie.Need-overflow_add-records invariant-loop-r decreases-loop-r
+overflow_add-records c = search rules
 
-cast-records-3 : tie.Need-overflow-cast-records-3 invariant-loop decreases-loop
-cast-records-3 c = search rules
+overflow_cast-records-3 : tie.Need-overflow_cast-records-3 invariant-loop-r decreases-loop-r
+overflow_cast-records-3 c = search rules
 
-add-records-2 : tie.Need-overflow-add-records-2 invariant-loop decreases-loop
-add-records-2 c = search rules
+overflow_add-records-2 : tie.Need-overflow_add-records-2 invariant-loop-r decreases-loop-r
+overflow_add-records-2 c = search rules
 
-text-stops-requires : tie.Need-text-stops-requires invariant-loop decreases-loop
-text-stops-requires c κs = search rules
+text_stops-stops-requires : tie.Need-text_stops-stops-requires invariant-loop-r decreases-loop-r
+text_stops-stops-requires c κs = search rules
 
-loop-holds : tie.Need-loop-init invariant-loop decreases-loop
-loop-holds c =
-    let a = c.before.before.before.before.before.args in
+loop-r-init : tie.Need-loop-r-init invariant-loop-r decreases-loop-r
+loop-r-init c =
+    let a = c.args in
     let test = record_bad a.image.now a.h in
     (omega arith, refl, start test 0 (records_in a.h) ∙ ap (λ (n : ℕ). first_from test 0 (n - 0)) (zero-add (records_in a.h)))
 
-record-good-requires : tie.Need-record-good-requires invariant-loop decreases-loop
-record-good-requires c κs = search rules
+record_good-requires : tie.Need-record_good-requires invariant-loop-r decreases-loop-r
+record_good-requires c κs = search rules
 
-record-offset-requires : tie.Need-record-offset-requires invariant-loop decreases-loop
-record-offset-requires c κs = search rules
+record_offset-requires : tie.Need-record_offset-requires invariant-loop-r decreases-loop-r
+record_offset-requires c κs = search rules
 
-returns : tie.Need-returns invariant-loop decreases-loop
+returns-then-not-record_good : tie.Need-returns-then-not-record_good invariant-loop-r decreases-loop-r
+unfolding bad_record
+returns-then-not-record_good c =
+    let a = c.args in
+    let test = record_bad a.image.now a.h in
+    let bad = ap not (sym c.record_good.ensures) ∙ c.if-not-record_good.true-raw in
+    let whole = ap (first_from test 0) (sym c.loop-r.invariant.1) ∙ c.loop-r.invariant.2 ∙ here test c.loop-r.r _ c.loop-r-test.true bad in
+    rw (whole, sym c.record_offset.ensures)
+
+overflow_add-r : tie.Need-overflow_add-r invariant-loop-r decreases-loop-r
+overflow_add-r c = search rules
+
+loop-r-smaller : tie.Need-loop-r-smaller invariant-loop-r decreases-loop-r
+loop-r-smaller c = omega arith
+
+loop-r-preserved : tie.Need-loop-r-preserved invariant-loop-r decreases-loop-r
+loop-r-preserved c =
+    let a = c.args in
+    let good = ap not (sym c.record_good.ensures) ∙ c.if-not-record_good.false-raw in
+    (omega arith, c.loop-r.invariant.1, c.loop-r.invariant.2 ∙ on (record_bad a.image.now a.h) c.loop-r.r _ c.loop-r-test.true good)
+
+returns : tie.Need-returns invariant-loop-r decreases-loop-r
 unfolding bad_record
 returns c =
-    let l = c.before.before.before.before.before in
-    let a = l.before.before.before.before.before.before.args in
-    let test = record_bad a.image.now a.h in
-    let bad = ap not (sym c.before.before.record_good_lem.ensures) ∙ c.before.if1.true in
-    let whole = ap (first_from test 0) (sym l.loop.invariant.1) ∙ l.loop.invariant.2 ∙ here test l.loop.r _ c.before.before.before.before.loop-test.true bad in
-    rw (whole, sym c.record-offset.ensures)
-
-add_r : tie.Need-overflow-add-r invariant-loop decreases-loop
-add_r c = search rules
-
-loop-less : tie.Need-loop-smaller invariant-loop decreases-loop
-loop-less c = omega arith
-
-loop-again : tie.Need-loop-preserved invariant-loop decreases-loop
-loop-again c =
-    let l = c.before.before.before.before in
-    let a = l.before.before.before.before.before.before.args in
-    let good = ap not (sym c.before.record_good_lem.ensures) ∙ c.if1.false in
-    (omega arith, l.loop.invariant.1, l.loop.invariant.2 ∙ on (record_bad a.image.now a.h) l.loop.r _ c.before.before.before.loop-test.true good)
-
-returns-2 : tie.Need-returns-2 invariant-loop decreases-loop
-unfolding bad_record
-returns-2 c =
-    let l = c.before.loop in
-    let a = c.before.before.before.before.before.before.before.args in
+    let l = c.loop-r in
+    let a = c.args in
     let test = record_bad a.image.now a.h in
     let end : records_in a.h ≡ l.r = omega arith in
     let stop : first_from test 0 (records_in a.h) ≡ Nowhere =
@@ -86,19 +84,19 @@ pub bad_record_spec : {M : Type 1} → statement M
 bad_record_spec =
     tie.close
     (tie.spec
-    invariant-loop
-    decreases-loop
-    cast-records
-    cast-records-2
-    add-records
-    cast-records-3
-    add-records-2
-    text-stops-requires
-    loop-holds
-    record-good-requires
-    record-offset-requires
-    returns
-    add_r
-    loop-less
-    loop-again
-    returns-2)
+    invariant-loop-r
+    decreases-loop-r
+    overflow_cast-records
+    overflow_cast-records-2
+    overflow_add-records
+    overflow_cast-records-3
+    overflow_add-records-2
+    text_stops-stops-requires
+    loop-r-init
+    record_good-requires
+    record_offset-requires
+    returns-then-not-record_good
+    overflow_add-r
+    loop-r-smaller
+    loop-r-preserved
+    returns)

@@ -4,78 +4,78 @@ use borrow.Author.Rules.{rules}
 use Rattle.records.proofs.fits.Statement.{statement}
 use Rattle.records.proofs.fits.Tie as tie
 
-enum_told : tie.Need-enum-told
-enum_told c = search rules
+enum_told-1 : tie.Need-enum_told-1
+enum_told-1 c = search rules
 
-enum-told-2 : tie.Need-enum-told-2
-enum-told-2 c = search rules
+enum_told-in-Number : tie.Need-enum_told-in-Number
+enum_told-in-Number c = search rules
 
-enum-told-3 : tie.Need-enum-told-3
-enum-told-3 c = search rules
+enum_told-in-Literal : tie.Need-enum_told-in-Literal
+enum_told-in-Literal c = search rules
 
-enum-told-4 : tie.Need-enum-told-4
-enum-told-4 c = search rules
+enum_told-in-Text : tie.Need-enum_told-in-Text
+enum_told-in-Text c = search rules
 
-is-text-requires : tie.Need-is-text-requires
-is-text-requires c κs = search rules
+is_text-requires : tie.Need-is_text-requires
+is_text-requires c κs = search rules
 
-enum-told-5 : tie.Need-enum-told-5
-enum-told-5 c = search rules
+enum_told-in-Function : tie.Need-enum_told-in-Function
+enum_told-in-Function c = search rules
 
-cast-result : tie.Need-overflow-cast-result
-cast-result c = search rules
+overflow_cast-result : tie.Need-overflow_cast-result
+overflow_cast-result c = search rules
 
-enum-known-role : tie.Need-enum-known-role
-enum-known-role c = search rules
+enum_known-role : tie.Need-enum_known-role
+enum_known-role c = search rules
 
-is-node-requires : tie.Need-is-node-requires
-is-node-requires c κs = search rules
+is_node-requires : tie.Need-is_node-requires
+is_node-requires c κs = search rules
 
-returns : tie.Need-returns
+returns-in-Unlisted : tie.Need-returns-in-Unlisted
 unfolding fits
-returns c = rw c.enum_told.given.1
+returns-in-Unlisted c = rw c.in-Unlisted.is
 
-returns-2 : tie.Need-returns-2
+returns-in-Number : tie.Need-returns-in-Number
 unfolding fits
-returns-2 c = rw c.enum-told2.given.1
+returns-in-Number c = rw c.in-Number.is
 
-returns-3 : tie.Need-returns-3
+returns-in-Literal : tie.Need-returns-in-Literal
 unfolding fits
-returns-3 c = rw c.before.enum-told3.given.1
+returns-in-Literal c = rw c.in-Literal.is
 
-returns-4 : tie.Need-returns-4
+returns-in-Text : tie.Need-returns-in-Text
 unfolding fits
-returns-4 c = rw c.before.enum-told4.given.1 c.is-text.ensures
+returns-in-Text c = rw c.in-Text.is c.is_text.ensures
 
-returns-5 : tie.Need-returns-5
+returns-in-Function : tie.Need-returns-in-Function
 unfolding fits
-returns-5 c = rw c.before.enum-told5.given.1
+returns-in-Function c = rw c.in-Function.is
 
-returns-6 : tie.Need-returns-6
+returns-then-needed : tie.Need-returns-then-needed
 unfolding fits
-returns-6 c = rw (c.before.before.before.role.given.1, c.before.if1.true) c.is_node_lem.ensures
+returns-then-needed c = rw (c.in-Node.is, c.if-needed.true) c.is_node.ensures
 
-returns-7 : tie.Need-returns-7
+returns-else-needed : tie.Need-returns-else-needed
 unfolding fits
-returns-7 c = rw (c.before.before.before.role.given.1, c.before.if1.false)
+returns-else-needed c = rw (c.in-Node.is, c.if-needed.false)
 
 pub fits_spec : {M : Type 1} → statement M
 fits_spec =
     tie.close
     (tie.spec
-    enum_told
-    enum-told-2
-    enum-told-3
-    enum-told-4
-    is-text-requires
-    enum-told-5
-    cast-result
-    enum-known-role
-    is-node-requires
-    returns
-    returns-2
-    returns-3
-    returns-4
-    returns-5
-    returns-6
-    returns-7)
+    enum_told-1
+    enum_told-in-Number
+    enum_told-in-Literal
+    enum_told-in-Text
+    is_text-requires
+    enum_told-in-Function
+    overflow_cast-result
+    enum_known-role
+    is_node-requires
+    returns-in-Unlisted
+    returns-in-Number
+    returns-in-Literal
+    returns-in-Text
+    returns-in-Function
+    returns-then-needed
+    returns-else-needed)

@@ -6,30 +6,30 @@ use borrow.Author.Rules.{rules}
 use Rattle.records.proofs.function_good.Statement.{statement}
 use Rattle.records.proofs.function_good.Tie as tie
 
-is-node-requires : tie.Need-is-node-requires
-is-node-requires c κs = search rules
+is_node-requires : tie.Need-is_node-requires
+is_node-requires c κs = search rules
+
+returns-then-not-is_node : tie.Need-returns-then-not-is_node
+unfolding function_good
+returns-then-not-is_node c = rw (sym c.is_node.ensures ∙ not-true _ c.if-not-is_node.true-raw)
+
+overflow_cast-f : tie.Need-overflow_cast-f
+overflow_cast-f c = search rules
+
+overflow_cast-f-2 : tie.Need-overflow_cast-f-2
+overflow_cast-f-2 c = search rules
+
+overflow_add-f : tie.Need-overflow_add-f
+overflow_add-f c = search rules
+
+returns-then-f-gt1024 : tie.Need-returns-then-f-gt1024
+unfolding function_good
+returns-then-f-gt1024 c = rw (sym c.is_node.ensures ∙ not-false _ c.if-not-is_node.false-raw, lt-leb _ _ c.if-f-gt1024.true)
 
 returns : tie.Need-returns
 unfolding function_good
-returns c = rw (sym c.before.is_node_lem.ensures ∙ not-true _ c.if1.true)
-
-cast-if2 : tie.Need-overflow-cast-if2
-cast-if2 c = search rules
-
-cast-if2-2 : tie.Need-overflow-cast-if2-2
-cast-if2-2 c = search rules
-
-add-if2 : tie.Need-overflow-add-if2
-add-if2 c = search rules
-
-returns-2 : tie.Need-returns-2
-unfolding function_good
-returns-2 c = rw (sym c.before.before.before.before.is_node_lem.ensures ∙ not-false _ c.before.before.before.if1.false, lt-leb _ _ c.if2.true)
-
-returns-3 : tie.Need-returns-3
-unfolding function_good
-returns-3 c = rw (sym c.before.before.before.before.before.is_node_lem.ensures ∙ not-false _ c.before.before.before.before.if1.false, le-leb _ _ c.before.if2.false)
+returns c = rw (sym c.is_node.ensures ∙ not-false _ c.if-not-is_node.false-raw, le-leb _ _ c.if-f-gt1024.false)
 
 pub function_good_spec : {M : Type 1} → statement M
 function_good_spec =
-    tie.close (tie.spec is-node-requires returns cast-if2 cast-if2-2 add-if2 returns-2 returns-3)
+    tie.close (tie.spec is_node-requires returns-then-not-is_node overflow_cast-f overflow_cast-f-2 overflow_add-f returns-then-f-gt1024 returns)

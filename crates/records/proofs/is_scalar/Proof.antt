@@ -5,17 +5,17 @@ use Rattle.kinds.proofs.Ranges.{inside, under, over}
 use Rattle.records.proofs.is_scalar.Statement.{statement}
 use Rattle.records.proofs.is_scalar.Tie as tie
 
-returns : tie.Need-returns
-returns c = rw (le-leb c.before.args.x 0xD7FF (omega arith))
+returns-in-0-to-55295 : tie.Need-returns-in-0-to-55295
+returns-in-0-to-55295 c = rw (le-leb c.args.x 0xD7FF (omega arith))
 
-returns-2 : tie.Need-returns-2
-returns-2 c = rw (lt-leb c.before.before.before.args.x 0xD7FF (omega arith)) (inside 0xE000 0x10FFFF c.before.before.before.args.x (omega arith) (omega arith))
+returns-in-57344-to-1114111 : tie.Need-returns-in-57344-to-1114111
+returns-in-57344-to-1114111 c = rw (lt-leb c.args.x 0xD7FF (omega arith)) (inside 0xE000 0x10FFFF c.args.x (omega arith) (omega arith))
 
-returns-3 : tie.Need-returns-3
-returns-3 c = rw (lt-leb c.before.before.args.x 0xD7FF (omega arith)) (under 0xE000 0x10FFFF c.before.before.args.x (omega arith))
+returns-in_default : tie.Need-returns-in_default
+returns-in_default c = rw (lt-leb c.args.x 0xD7FF (omega arith)) (under 0xE000 0x10FFFF c.args.x (omega arith))
 
-returns-4 : tie.Need-returns-4
-returns-4 c = rw (lt-leb c.before.before.before.args.x 0xD7FF (omega arith)) (over 0xE000 0x10FFFF c.before.before.before.args.x (omega arith))
+returns-in_default-2 : tie.Need-returns-in_default-2
+returns-in_default-2 c = rw (lt-leb c.args.x 0xD7FF (omega arith)) (over 0xE000 0x10FFFF c.args.x (omega arith))
 
 pub is_scalar_spec : {M : Type 1} → statement M
-is_scalar_spec = tie.close (tie.spec returns returns-2 returns-3 returns-4)
+is_scalar_spec = tie.close (tie.spec returns-in-0-to-55295 returns-in-57344-to-1114111 returns-in_default returns-in_default-2)

@@ -7,14 +7,14 @@ use borrow.Author.Rules.{rules}
 use Rattle.records.proofs.is_text.Statement.{statement}
 use Rattle.records.proofs.is_text.Tie as tie
 
+returns-then-h-l : tie.Need-returns-then-h-l
+returns-then-h-l c = rw (le-ltb _ _ c.if-h-l.true)
+
+literal_at-d-requires : tie.Need-literal_at-d-requires
+literal_at-d-requires c κs = search rules
+
 returns : tie.Need-returns
-returns c = rw (le-ltb _ _ c.if1.true)
-
-literal-at-requires : tie.Need-literal-at-requires
-literal-at-requires c κs = search rules
-
-returns-2 : tie.Need-returns-2
-returns-2 c = rw (lt-ltb _ _ c.before.before.if1.false) (ap (λ (d : Literal). eqb d.kind 6) c.before.literal-at.ensures)
+returns c = rw (lt-ltb _ _ c.if-h-l.false) (ap (λ (d : Literal). eqb d.kind 6) c.literal_at-d.ensures)
 
 pub is_text_spec : {M : Type 1} → statement M
-is_text_spec = tie.close (tie.spec returns literal-at-requires returns-2)
+is_text_spec = tie.close (tie.spec returns-then-h-l literal_at-d-requires returns)

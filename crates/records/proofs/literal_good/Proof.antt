@@ -6,20 +6,20 @@ use borrow.Author.Rules.{rules}
 use Rattle.records.proofs.literal_good.Statement.{statement}
 use Rattle.records.proofs.literal_good.Tie as tie
 
-literal-at-requires : tie.Need-literal-at-requires
-literal-at-requires c κs = search rules
+literal_at-d-requires : tie.Need-literal_at-d-requires
+literal_at-d-requires c κs = search rules
+
+returns-then-d-ne0 : tie.Need-returns-then-d-ne0
+unfolding literal_good
+returns-then-d-ne0 c = rw (sym c.literal_at-d.ensures, ne_eqb _ _ c.if-d-ne0.true)
+
+payload_good-requires : tie.Need-payload_good-requires
+payload_good-requires c κs = search rules
 
 returns : tie.Need-returns
 unfolding literal_good
-returns c = rw (sym c.before.before.literal-at.ensures, ne_eqb _ _ c.if1.true)
-
-payload-good-requires : tie.Need-payload-good-requires
-payload-good-requires c κs = search rules
-
-returns-2 : tie.Need-returns-2
-unfolding literal_good
-returns-2 c = rw (sym c.before.before.before.literal-at.ensures, eq-eqb _ _ c.before.if1.false) c.payload-good.ensures
+returns c = rw (sym c.literal_at-d.ensures, eq-eqb _ _ c.if-d-ne0.false) c.payload_good.ensures
 
 pub literal_good_spec : {M : Type 1} → statement M
 literal_good_spec =
-    tie.close (tie.spec literal-at-requires returns payload-good-requires returns-2)
+    tie.close (tie.spec literal_at-d-requires returns-then-d-ne0 payload_good-requires returns)

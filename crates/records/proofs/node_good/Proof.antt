@@ -6,57 +6,57 @@ use borrow.Author.Rules.{rules}
 use Rattle.records.proofs.node_good.Statement.{statement}
 use Rattle.records.proofs.node_good.Tie as tie
 
-row-of-requires : tie.Need-row-of-requires
-row-of-requires c κs = search rules
+row_of-line-requires : tie.Need-row_of-line-requires
+row_of-line-requires c κs = search rules
 
-returns : tie.Need-returns
+returns-then-line-d : tie.Need-returns-then-line-d
 unfolding node_good
-returns c = rw (sym c.before.before.before.row_of.ensures, le-ltb _ _ c.if1.true)
+returns-then-line-d c = rw (sym c.row_of-line.ensures, le-ltb _ _ c.if-line-d.true)
 
-returns-2 : tie.Need-returns-2
+returns-then-d-ne0 : tie.Need-returns-then-d-ne0
 unfolding node_good
-returns-2 c = rw (sym c.before.before.before.before.before.row_of.ensures, lt-ltb _ _ c.before.before.if1.false, ne_eqb _ _ c.if2.true)
+returns-then-d-ne0 c = rw (sym c.row_of-line.ensures, lt-ltb _ _ c.if-line-d.false, ne_eqb _ _ c.if-d-ne0.true)
 
-returns-3 : tie.Need-returns-3
+returns-then-h-d : tie.Need-returns-then-h-d
 unfolding node_good
-returns-3 c = rw (sym c.before.before.before.before.before.before.before.before.row_of.ensures, lt-ltb _ _ c.before.before.before.before.before.if1.false, eq-eqb _ _ c.before.before.before.if2.false, lt-leb _ _ c.if3.true)
+returns-then-h-d c = rw (sym c.row_of-line.ensures, lt-ltb _ _ c.if-line-d.false, eq-eqb _ _ c.if-d-ne0.false, lt-leb _ _ c.if-h-d.true)
 
-tag-role-requires : tie.Need-tag-role-requires
-tag-role-requires c κs = search rules
+tag_role-requires : tie.Need-tag_role-requires
+tag_role-requires c κs = search rules
 
 fits-requires : tie.Need-fits-requires
 fits-requires c κs = search rules
 
-returns-4 : tie.Need-returns-4
+returns-then-not-fits : tie.Need-returns-then-not-fits
 unfolding node_good
-returns-4 c = rw (sym c.before.before.before.before.before.before.before.before.before.before.before.row_of.ensures, lt-ltb _ _ c.before.before.before.before.before.before.before.before.if1.false, eq-eqb _ _ c.before.before.before.before.before.before.if2.false, le-leb _ _ c.before.before.before.if3.false, sym c.before.before.tag-role.ensures, sym c.before.fits2.ensures ∙ not-true _ c.if4.true)
+returns-then-not-fits c = rw (sym c.row_of-line.ensures, lt-ltb _ _ c.if-line-d.false, eq-eqb _ _ c.if-d-ne0.false, le-leb _ _ c.if-h-d.false, sym c.tag_role.ensures, sym c.fits.ensures ∙ not-true _ c.if-not-fits.true-raw)
 
 fits-requires-2 : tie.Need-fits-requires-2
 fits-requires-2 c κs = search rules
 
-returns-5 : tie.Need-returns-5
+returns-then-not-fits-2 : tie.Need-returns-then-not-fits-2
 unfolding node_good
-returns-5 c = rw (sym c.before.before.before.before.before.before.before.before.before.before.before.before.before.row_of.ensures, lt-ltb _ _ c.before.before.before.before.before.before.before.before.before.before.if1.false, eq-eqb _ _ c.before.before.before.before.before.before.before.before.if2.false, le-leb _ _ c.before.before.before.before.before.if3.false, sym c.before.before.before.before.tag-role.ensures, sym c.before.before.before.fits2.ensures ∙ not-false _ c.before.before.if4.false, sym c.before.fits3.ensures ∙ not-true _ c.if5.true)
+returns-then-not-fits-2 c = rw (sym c.row_of-line.ensures, lt-ltb _ _ c.if-line-d.false, eq-eqb _ _ c.if-d-ne0.false, le-leb _ _ c.if-h-d.false, sym c.tag_role.ensures, sym c.fits.ensures ∙ not-false _ c.if-not-fits.false-raw, sym c.fits-2.ensures ∙ not-true _ c.if-not-fits-2.true-raw)
 
 fits-requires-3 : tie.Need-fits-requires-3
 fits-requires-3 c κs = search rules
 
-returns-6 : tie.Need-returns-6
+returns : tie.Need-returns
 unfolding node_good
-returns-6 c = rw (sym c.before.before.before.before.before.before.before.before.before.before.before.before.before.before.row_of.ensures, lt-ltb _ _ c.before.before.before.before.before.before.before.before.before.before.before.if1.false, eq-eqb _ _ c.before.before.before.before.before.before.before.before.before.if2.false, le-leb _ _ c.before.before.before.before.before.before.if3.false, sym c.before.before.before.before.before.tag-role.ensures, sym c.before.before.before.before.fits2.ensures ∙ not-false _ c.before.before.before.if4.false, sym c.before.before.fits3.ensures ∙ not-false _ c.before.if5.false) c.fits4.ensures
+returns c = rw (sym c.row_of-line.ensures, lt-ltb _ _ c.if-line-d.false, eq-eqb _ _ c.if-d-ne0.false, le-leb _ _ c.if-h-d.false, sym c.tag_role.ensures, sym c.fits.ensures ∙ not-false _ c.if-not-fits.false-raw, sym c.fits-2.ensures ∙ not-false _ c.if-not-fits-2.false-raw) c.fits-3.ensures
 
 pub node_good_spec : {M : Type 1} → statement M
 node_good_spec =
     tie.close
     (tie.spec
-    row-of-requires
-    returns
-    returns-2
-    returns-3
-    tag-role-requires
+    row_of-line-requires
+    returns-then-line-d
+    returns-then-d-ne0
+    returns-then-h-d
+    tag_role-requires
     fits-requires
-    returns-4
+    returns-then-not-fits
     fits-requires-2
-    returns-5
+    returns-then-not-fits-2
     fits-requires-3
-    returns-6)
+    returns)

@@ -7,20 +7,20 @@ use borrow.Author.Rules.{rules}
 use Rattle.records.proofs.tag_role.Statement.{statement}
 use Rattle.records.proofs.tag_role.Tie as tie
 
-row-of-requires : tie.Need-row-of-requires
-row-of-requires c κs = search rules
+row_of-line-requires : tie.Need-row_of-line-requires
+row_of-line-requires c κs = search rules
 
-returns : tie.Need-returns
+returns-then-kind-ne20 : tie.Need-returns-then-kind-ne20
 unfolding tag_role
-returns c = rw (ne_eqb _ _ c.if1.true) (ap (λ (r : KindRow). r.tag) c.before.row_of.ensures)
+returns-then-kind-ne20 c = rw (ne_eqb _ _ c.if-kind-ne20.true) (ap (λ (r : KindRow). r.tag) c.row_of-line.ensures)
 
-returns-2 : tie.Need-returns-2
+returns-then-op-eq0 : tie.Need-returns-then-op-eq0
 unfolding tag_role
-returns-2 c = rw (eq-eqb _ _ c.before.if1.false, eq-eqb _ _ c.if2.true)
+returns-then-op-eq0 c = rw (eq-eqb _ _ c.if-kind-ne20.false, eq-eqb _ _ c.if-op-eq0.true)
 
-returns-3 : tie.Need-returns-3
+returns-else-op-eq0 : tie.Need-returns-else-op-eq0
 unfolding tag_role
-returns-3 c = rw (eq-eqb _ _ c.before.if1.false, ne_eqb _ _ c.if2.false) (ap (λ (r : KindRow). r.tag) c.before.before.row_of.ensures)
+returns-else-op-eq0 c = rw (eq-eqb _ _ c.if-kind-ne20.false, ne_eqb _ _ c.if-op-eq0.false) (ap (λ (r : KindRow). r.tag) c.row_of-line.ensures)
 
 pub tag_role_spec : {M : Type 1} → statement M
-tag_role_spec = tie.close (tie.spec row-of-requires returns returns-2 returns-3)
+tag_role_spec = tie.close (tie.spec row_of-line-requires returns-then-kind-ne20 returns-then-op-eq0 returns-else-op-eq0)

@@ -8,38 +8,37 @@ use Rattle.records.proofs.Texts.{text_lent}
 use Rattle.records.proofs.text_stops.Statement.{statement}
 use Rattle.records.proofs.text_stops.Tie as tie
 
-text-at-requires : tie.Need-text-at-requires
-text-at-requires c κs = search rules
+text_at-at-requires : tie.Need-text_at-at-requires
+text_at-at-requires c κs = search rules
 
-size-of-requires : tie.Need-size-of-requires
-size-of-requires c κs = search rules
+size_of-end-requires : tie.Need-size_of-end-requires
+size_of-end-requires c κs = search rules
 
-sub-stops-of : tie.Need-overflow-sub-stops-of
-sub-stops-of c = search rules
+slice_bounds-stops_of-count : tie.Need-slice_bounds-stops_of-count
+slice_bounds-stops_of-count c = search rules
 
-part-stops-of-start : tie.Need-slice-bounds-stops-of-start
-part-stops-of-start c = search rules
+slice_bounds-stops_of-start : tie.Need-slice_bounds-stops_of-start
+slice_bounds-stops_of-start c = search rules
 
-part-stops-of-end : tie.Need-slice-bounds-stops-of-end
-part-stops-of-end c = search rules
+slice_bounds-stops_of-end : tie.Need-slice_bounds-stops_of-end
+slice_bounds-stops_of-end c = search rules
 
-stops-of-requires : tie.Need-stops-of-requires
-stops-of-requires c κs = search rules
+stops_of-requires : tie.Need-stops_of-requires
+stops_of-requires c κs = search rules
 
 returns : tie.Need-returns
 returns c =
-    let a = c.before.before.before.before.before in
-    let lent = text_lent a.args.image.now a.args.h a.requires _ _ c.before.before.before.text_at.ensures c.before.before.type_size.ensures in
-    subst (λ (l : List ℕ). Stops l c.stops-of.result) lent c.stops-of.ensures
+    let lent = text_lent c.args.image.now c.args.h c.requires _ _ c.text_at-at.ensures c.size_of-end.ensures in
+    subst (λ (l : List ℕ). Stops l c.stops_of.result) lent c.stops_of.ensures
 
 pub text_stops_spec : {M : Type 1} → statement M
 text_stops_spec =
     tie.close
     (tie.spec
-    text-at-requires
-    size-of-requires
-    sub-stops-of
-    part-stops-of-start
-    part-stops-of-end
-    stops-of-requires
+    text_at-at-requires
+    size_of-end-requires
+    slice_bounds-stops_of-count
+    slice_bounds-stops_of-start
+    slice_bounds-stops_of-end
+    stops_of-requires
     returns)

@@ -105,7 +105,7 @@ read_most_returns_2 : (t : ℕ) → read-most-lts.Need-returns-2 (
   index-place-reads.Asked,
   index-place-reads.Learnt,
 ) (read_most_at t) read-most.Post
-read_most_returns_2 t c = read_name _ _ _ _ _ _ c.before.before.before.before.Node-at.ensures _ _ c.before.before.before.before.before.if1.false _ c.before.before.if2.true c.before.name_place_lem.ensures c.read_at.ensures
+read_most_returns_2 t c = read_name _ _ _ _ _ _ c.before.before.before.before.node_at.ensures _ _ c.before.before.before.before.before.if1.false _ c.before.before.if2.true c.before.name_place_lem.ensures c.read_at.ensures
 
 read_most_sub_read_most : (t : ℕ) → read-most-lts.Need-overflow-sub-read-most (
   node-at-reads.Asked,
@@ -137,7 +137,7 @@ read_most_read_most_requires : (t : ℕ) → read-most-lts.Need-read-most-requir
   index-place-reads.Asked,
   index-place-reads.Learnt,
 ) (read_most_at t) read-most.Post
-read_most_read_most_requires t c κs = (omega (arith, c.before.before.before.before.before.before.requires.0, c.before.before.before.if1.false), (part_before _ _ _ c.before.before.before.before.before.before.requires.1.0 _ c.before.before.Node-at.ensures c.if2.false, c.before.before.before.before.before.before.requires.1.1))
+read_most_read_most_requires t c κs = (omega (arith, c.before.before.before.before.before.before.requires.0, c.before.before.before.if1.false), (part_before _ _ _ c.before.before.before.before.before.before.requires.1.0 _ c.before.before.node_at.ensures c.if2.false, c.before.before.before.before.before.before.requires.1.1))
 
 read_most_enum_known_got : (t : ℕ) → read-most-lts.Need-enum-known-got (
   node-at-reads.Asked,
@@ -185,7 +185,7 @@ read_most_returns_3 : (t : ℕ) → read-most-lts.Need-returns-3 (
   index-place-reads.Asked,
   index-place-reads.Learnt,
 ) (read_most_at t) read-most.Post
-read_most_returns_3 t c = read_stopped _ _ _ _ _ _ c.before.before.before.before.before.Node-at.ensures _ c.before.before.read-most.result c.before.before.before.before.before.before.if1.false c.before.before.before.if2.false _ c.before.before.read-most.ensures _ _ c.enum_told.given.1
+read_most_returns_3 t c = read_stopped _ _ _ _ _ _ c.before.before.before.before.before.node_at.ensures _ c.before.before.read-most.result c.before.before.before.before.before.before.if1.false c.before.before.before.if2.false _ c.before.before.read-most.ensures _ _ c.enum_told.given.1
 
 read_most_field_place_requires : (t : ℕ) → read-most-lts.Need-field-place-requires (
   node-at-reads.Asked,
@@ -201,7 +201,7 @@ read_most_field_place_requires : (t : ℕ) → read-most-lts.Need-field-place-re
   index-place-reads.Asked,
   index-place-reads.Learnt,
 ) (read_most_at t) read-most.Post
-read_most_field_place_requires t c κs = (key_there _ _ _ c.before.before.before.before.before.before.before.before.before.before.before.before.requires.1.0 _ c.before.before.before.before.before.before.before.before.Node-at.ensures c.if3.true, whole _ _ _ c.before.before.before.before.before.before.before.before.before.before.before.before.requires.1.0, c.before.before.before.before.before.before.before.before.before.before.before.before.requires.1.1)
+read_most_field_place_requires t c κs = (key_there _ _ _ c.before.before.before.before.before.before.before.before.before.before.before.before.requires.1.0 _ c.before.before.before.before.before.before.before.before.node_at.ensures c.if3.true, whole _ _ _ c.before.before.before.before.before.before.before.before.before.before.before.before.requires.1.0, c.before.before.before.before.before.before.before.before.before.before.before.before.requires.1.1)
 
 read_most_read_at_requires_2 : (t : ℕ) → read-most-lts.Need-read-at-requires-2 (
   node-at-reads.Asked,
@@ -233,7 +233,7 @@ read_most_returns_4 : (t : ℕ) → read-most-lts.Need-returns-4 (
   index-place-reads.Asked,
   index-place-reads.Learnt,
 ) (read_most_at t) read-most.Post
-read_most_returns_4 t c = read_field _ _ _ _ _ _ c.before.before.before.before.before.before.before.before.before.before.Node-at.ensures _ _ c.before.before.before.before.before.before.before.before.before.before.before.if1.false c.before.before.before.before.before.before.before.before.if2.false _ c.before.before.before.before.before.before.before.read-most.ensures _ _ c.before.before.before.before.before.got.given.1 c.before.before.if3.true c.before.field_place_lem.ensures c.read-at2.ensures
+read_most_returns_4 t c = read_field _ _ _ _ _ _ c.before.before.before.before.before.before.before.before.before.before.node_at.ensures _ _ c.before.before.before.before.before.before.before.before.before.before.before.if1.false c.before.before.before.before.before.before.before.before.if2.false _ c.before.before.before.before.before.before.before.read-most.ensures _ _ c.before.before.before.before.before.got.given.1 c.before.before.if3.true c.before.field_place_lem.ensures c.read-at2.ensures
 
 read_most_index_place_requires : (t : ℕ) → read-most-lts.Need-index-place-requires (
   node-at-reads.Asked,
@@ -281,7 +281,7 @@ read_most_returns_5 : (t : ℕ) → read-most-lts.Need-returns-5 (
   index-place-reads.Asked,
   index-place-reads.Learnt,
 ) (read_most_at t) read-most.Post
-read_most_returns_5 t c = read_index _ _ _ _ _ _ c.before.before.before.before.before.before.before.before.before.before.Node-at.ensures _ _ c.before.before.before.before.before.before.before.before.before.before.before.if1.false c.before.before.before.before.before.before.before.before.if2.false _ c.before.before.before.before.before.before.before.read-most.ensures _ _ c.before.before.before.before.before.got.given.1 c.before.before.if3.false c.before.index_place_lem.ensures c.read-at3.ensures
+read_most_returns_5 t c = read_index _ _ _ _ _ _ c.before.before.before.before.before.before.before.before.before.before.node_at.ensures _ _ c.before.before.before.before.before.before.before.before.before.before.before.if1.false c.before.before.before.before.before.before.before.before.if2.false _ c.before.before.before.before.before.before.before.read-most.ensures _ _ c.before.before.before.before.before.got.given.1 c.before.before.if3.false c.before.index_place_lem.ensures c.read-at3.ensures
 
 pub +read-most-spec : {M : Type 1} → statement M
 +read-most-spec = close μ_read_most λ t. read-most-lts.spec (

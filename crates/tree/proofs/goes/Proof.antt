@@ -59,7 +59,7 @@ returns-4 : tie.Need-returns-4
 unfolding goes
 returns-4 c =
     rw (c.before.before.before.before.before.role.given.1, ne_eqb _ _ c.before.before.before.if1.false, lt-ltb _ _ c.before.before.if2.false)
-    (c.is-of.ensures ∙ ap (λ (d : Node). is_of c.before.before.before.before.before.role.given.0.1.1.0 d.kind) c.before.Node-at.ensures)
+    (c.is-of.ensures ∙ ap (λ (d : Node). is_of c.before.before.before.before.before.role.given.0.1.1.0 d.kind) c.before.node_at.ensures)
 
 returns-5 : tie.Need-returns-5
 returns-5 c =

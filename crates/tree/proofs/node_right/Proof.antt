@@ -27,14 +27,14 @@ names-well-requires : tie.Need-names-well-requires
 names-well-requires c κs =
     let p = c.before.before.before.requires in
     let a = c.before.before.before.args in
-    (p.2, ap (node_good a.image.now a.h) c.before.Node-at.ensures ∙ p.3.good a.n p.0 p.1)
+    (p.2, ap (node_good a.image.now a.h) c.before.node_at.ensures ∙ p.3.good a.n p.0 p.1)
 
 returns : tie.Need-returns
 unfolding node_right
 returns c =
     let p = c.before.before.before.before.before.requires in
     let small : c.before.before.before.before.before.args.n < 4096 = omega (arith, p.3.few) in
-    rw (sym c.before.before.before.Node-at.ensures, sym (p.4.chained.at c.before.before.before.before.before.args.n small), sym c.before.names-well.ensures ∙ not-true _ c.if1.true)
+    rw (sym c.before.before.before.node_at.ensures, sym (p.4.chained.at c.before.before.before.before.before.args.n small), sym c.before.names-well.ensures ∙ not-true _ c.if1.true)
 
 parts-requires : tie.Need-parts-requires
 parts-requires c κs = search rules
@@ -44,7 +44,7 @@ unfolding node_right
 returns-2 c =
     let p = c.before.before.before.before.before.before.before.requires in
     let small : c.before.before.before.before.before.before.before.args.n < 4096 = omega (arith, p.3.few) in
-    rw (sym c.before.before.before.before.before.Node-at.ensures, sym (p.4.chained.at c.before.before.before.before.before.before.before.args.n small), sym c.before.before.before.names-well.ensures ∙ not-false _ c.before.before.if1.false, sym c.before.parts.ensures, lt-leb _ _ c.if2.true)
+    rw (sym c.before.before.before.before.before.node_at.ensures, sym (p.4.chained.at c.before.before.before.before.before.before.before.args.n small), sym c.before.before.before.names-well.ensures ∙ not-false _ c.before.before.if1.false, sym c.before.parts.ensures, lt-leb _ _ c.if2.true)
 
 element-copy-out-is-named-well : tie.Need-element-copy-out-is-named-well
 element-copy-out-is-named-well c = search rules
@@ -61,8 +61,8 @@ returns-3 c =
     let p = c.before.before.before.before.before.before.before.before.before.before.requires in
     let a = c.before.before.before.before.before.before.before.before.before.before.args in
     let small : a.n < 4096 = omega (arith, p.3.few) in
-    let kind = c.before.before.before.before.before.before.before.before.Node-at.result.kind in
-    rw (sym c.before.before.before.before.before.before.before.before.Node-at.ensures, sym (p.4.chained.at a.n small), sym c.before.before.before.before.before.before.names-well.ensures ∙ not-false _ c.before.before.before.before.before.if1.false, sym c.before.before.before.before.parts.ensures, le-leb _ _ c.before.before.before.if2.false)
+    let kind = c.before.before.before.before.before.before.before.before.node_at.result.kind in
+    rw (sym c.before.before.before.before.before.before.before.before.node_at.ensures, sym (p.4.chained.at a.n small), sym c.before.before.before.before.before.before.names-well.ensures ∙ not-false _ c.before.before.before.before.before.if1.false, sym c.before.before.before.before.parts.ensures, le-leb _ _ c.before.before.before.if2.false)
     (c.is-named-well.ensures ∙ ap₂ (is_named_well a.h a.n kind) (p.4.named.at a.n small) (p.4.as_body.at a.n small) ∙ by_counts a.h a.n kind _ _)
 
 pub node_right_spec : {M : Type 1} → statement M

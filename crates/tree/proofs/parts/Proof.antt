@@ -61,7 +61,7 @@ is-part-requires c κs = search rules
 returns : tie.Need-returns invariant-loop decreases-loop
 returns c =
     let l = c.before.before.before.before.loop in
-    let d = c.before.before.Node-at in
+    let d = c.before.before.node_at in
     let stop = turn c.before.before.before.before.before.before.args.image.now c.before.before.before.before.before.before.args.h l.at l.count d.result d.ensures c.before.before.before.loop-test.true in
     let none = rw (sym c.before.is-part.ensures ∙ not-true _ c.if1.true) at stop in
     omega (arith, l.invariant.3, none)
@@ -72,7 +72,7 @@ add-count c = search rules
 returns-2 : tie.Need-returns-2 invariant-loop decreases-loop
 returns-2 c =
     let l = c.before.before.before.before.before.before.loop in
-    let d = c.before.before.before.before.Node-at in
+    let d = c.before.before.before.before.node_at in
     let stop = turn c.before.before.before.before.before.before.before.before.args.image.now c.before.before.before.before.before.before.before.before.args.h l.at l.count d.result d.ensures c.before.before.before.before.before.loop-test.true in
     let one = rw (sym c.before.before.before.is-part.ensures ∙ not-false _ c.before.before.if1.false, le-ltb _ _ c.if2.true) at stop in
     omega (arith, l.invariant.3, one)
@@ -85,7 +85,7 @@ loop-again c =
     let a = c.before.before.before.before.before.before.before.before.args in
     let image = a.image.now in
     let l = c.before.before.before.before.before.before.loop in
-    let d = c.before.before.before.before.Node-at in
+    let d = c.before.before.before.before.node_at in
     let is = sym c.before.before.before.is-part.ensures ∙ not-false _ c.before.before.if1.false in
     let on = rw (is, lt-ltb _ _ c.if2.false) at (turn image a.h l.at l.count d.result d.ensures c.before.before.before.before.before.loop-test.true) in
     let good = c.before.before.before.before.before.before.before.before.requires.3.good l.at l.invariant.1 l.invariant.2 in

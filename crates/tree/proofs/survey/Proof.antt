@@ -56,12 +56,12 @@ node-at-requires c κs = search rules
 
 name-node-requires : tie.Need-name-node-requires invariant-loop decreases-loop
 name-node-requires c κs =
-    let b = node_below _ _ _ c.before.Node-at.result c.before.Node-at.ensures in
+    let b = node_below _ _ _ c.before.node_at.result c.before.node_at.ensures in
     (b.0, b.1, b.2, c.before.before.before.loop.invariant.1.long ∙ c.before.before.before.before.before.requires.2)
 
 mark-node-requires : tie.Need-mark-node-requires invariant-loop decreases-loop
 mark-node-requires c κs =
-    let b = node_below _ _ _ c.before.before.before.Node-at.result c.before.before.before.Node-at.ensures in
+    let b = node_below _ _ _ c.before.before.before.node_at.result c.before.before.before.node_at.ensures in
     (omega arith, b.0, b.2, c.before.before.before.before.before.loop.invariant.2.long)
 
 loop-less : tie.Need-loop-smaller invariant-loop decreases-loop
@@ -71,7 +71,7 @@ loop-again : tie.Need-loop-preserved invariant-loop decreases-loop
 loop-again c =
     let i = c.before.before.before.before.before.before.loop.invariant in
     let image = c.before.before.before.before.before.before.before.before.args.image.now in
-    let d = c.before.before.before.before.Node-at in (
+    let d = c.before.before.before.before.node_at in (
       omega arith,
       more_names image c.before.before.before.before.before.before.before.before.args.h c.before.before.before.before.before.before.loop.n d.result _ _ _ d.ensures i.1 c.before.before.name-node.ensures,
       more_chains image c.before.before.before.before.before.before.before.before.args.h c.before.before.before.before.before.before.loop.n d.result _ _ d.ensures (omega arith) i.2 c.mark-node.ensures,

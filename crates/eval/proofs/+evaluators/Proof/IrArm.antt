@@ -44,7 +44,7 @@ ir_arm_ir_condition_requires t c κs =
     let r = c.before.before.before.before.before.before.before.before.before.before.requires.1.0 in
     let opened = c.before.before.before.«open».ensures _ [] r.fits in
     let there = a_there r 18 c.before.before.before.before.before.before.before.before.before.before.requires.1.2 true false Condition refl (λ (e : true ≡ false). absurd (true≢false e)) in
-    (omega (arith, c.before.before.before.before.before.before.before.before.before.before.requires.0, opened.kept.takes), (ready_at r _ (rw (ap (λ (x : Node). x.a) c.before.before.before.before.before.before.Node-at.ensures) there) opened.kept.fits refl, c.before.before.before.before.before.before.before.before.before.before.requires.1.1))
+    (omega (arith, c.before.before.before.before.before.before.before.before.before.before.requires.0, opened.kept.takes), (ready_at r _ (rw (ap (λ (x : Node). x.a) c.before.before.before.before.before.before.node_at.ensures) there) opened.kept.fits refl, c.before.before.before.before.before.before.before.before.before.before.requires.1.1))
 
 -- src/eval.rt:249:11
 pub ir_arm_told_requires : (t : ℕ) → ir-arm-lts.Need-told-requires (ir_arm_claims t) (ir_arm_at t) ir-arm.Post
@@ -66,7 +66,7 @@ ir_arm_ir_taken_requires t c κs =
     let opened = c.before.before.before.before.before.before.before.before.before.before.before.before.before.before.«open».ensures _ [] r.fits in
     let there = b_there r 18 c.before.before.before.before.before.before.before.before.before.before.before.before.before.before.before.before.before.before.before.before.before.requires.1.2 true false Scope refl (λ (e : true ≡ false). absurd (true≢false e)) in
     let q = c.before.before.before.before.before.before.before.before.before.before.ir-condition.ensures in
-    (omega (arith, c.before.before.before.before.before.before.before.before.before.before.before.before.before.before.before.before.before.before.before.before.before.requires.0, opened.kept.takes, no_more_post q), ready_at r _ (rw (ap (λ (x : Node). x.b) c.before.before.before.before.before.before.before.before.before.before.before.before.before.before.before.before.before.Node-at.ensures) there) q.fits q.room)
+    (omega (arith, c.before.before.before.before.before.before.before.before.before.before.before.before.before.before.before.before.before.before.before.before.before.requires.0, opened.kept.takes, no_more_post q), ready_at r _ (rw (ap (λ (x : Node). x.b) c.before.before.before.before.before.before.before.before.before.before.before.before.before.before.before.before.before.node_at.ensures) there) q.fits q.room)
 
 -- src/eval.rt:252:19
 pub ir_arm_enum_told_2 : (t : ℕ) → ir-arm-lts.Need-enum-told-2 (ir_arm_claims t) (ir_arm_at t) ir-arm.Post
@@ -91,8 +91,8 @@ ir_arm_same_length_2 t c = search rules
 -- src/eval.rt:241:1
 pub ir_arm_returns : (t : ℕ) → ir-arm-lts.Need-returns (ir_arm_claims t) (ir_arm_at t) ir-arm.Post
 ir_arm_returns t c =
-    let b = ap (λ (x : Node). x.b) c.before.before.before.before.before.before.before.before.before.before.before.before.before.before.before.before.before.before.before.before.before.before.Node-at.ensures in
-    out_of _ _ (on_post (arm_holds _ (λ z. omega (arith, z, c.before.before.before.before.before.before.before.before.before.before.before.before.before.before.before.before.before.before.before.before.before.before.before.before.before.before.requires.1.0.first)) (ap (λ (x : Node). x.a) c.before.before.before.before.before.before.before.before.before.before.before.before.before.before.before.before.before.before.before.before.before.before.Node-at.ensures) refl c.before.before.before.before.before.before.before.before.before.before.before.before.before.before.before.before.before.before.before.before.before.before.before.before.before.before.requires.1.0.fits c.before.before.before.before.before.before.before.before.before.before.before.before.before.before.before.before.before.before.before.«open».ensures c.before.before.before.before.before.before.before.before.before.before.before.before.before.before.before.ir-condition.ensures (sym c.before.before.before.before.before.before.before.before.before.before.told.ensures ∙ c.before.before.before.before.before.before.before.before.enum_told.given.1)) (rw b at c.before.before.before.before.ir-taken.ensures))
+    let b = ap (λ (x : Node). x.b) c.before.before.before.before.before.before.before.before.before.before.before.before.before.before.before.before.before.before.before.before.before.before.node_at.ensures in
+    out_of _ _ (on_post (arm_holds _ (λ z. omega (arith, z, c.before.before.before.before.before.before.before.before.before.before.before.before.before.before.before.before.before.before.before.before.before.before.before.before.before.before.requires.1.0.first)) (ap (λ (x : Node). x.a) c.before.before.before.before.before.before.before.before.before.before.before.before.before.before.before.before.before.before.before.before.before.before.node_at.ensures) refl c.before.before.before.before.before.before.before.before.before.before.before.before.before.before.before.before.before.before.before.before.before.before.before.before.before.before.requires.1.0.fits c.before.before.before.before.before.before.before.before.before.before.before.before.before.before.before.before.before.before.before.«open».ensures c.before.before.before.before.before.before.before.before.before.before.before.before.before.before.before.ir-condition.ensures (sym c.before.before.before.before.before.before.before.before.before.before.told.ensures ∙ c.before.before.before.before.before.before.before.before.enum_told.given.1)) (rw b at c.before.before.before.before.ir-taken.ensures))
 
 -- src/eval.rt:241:1
 pub ir_arm_same_length_3 : (t : ℕ) → ir-arm-lts.Need-same-length-3 (ir_arm_claims t) (ir_arm_at t) ir-arm.Post
@@ -104,7 +104,7 @@ ir_arm_same_length_4 t c = search rules
 
 -- src/eval.rt:241:1
 pub ir_arm_returns_2 : (t : ℕ) → ir-arm-lts.Need-returns-2 (ir_arm_claims t) (ir_arm_at t) ir-arm.Post
-ir_arm_returns_2 t c = arm_fails _ (λ z. omega (arith, z, c.before.before.before.before.before.before.before.before.before.before.before.before.before.before.before.before.before.before.before.before.requires.1.0.first)) (ap (λ (x : Node). x.a) c.before.before.before.before.before.before.before.before.before.before.before.before.before.before.before.before.Node-at.ensures) refl c.before.before.before.before.before.before.before.before.before.before.before.before.before.before.before.before.before.before.before.before.requires.1.0.fits c.before.before.before.before.before.before.before.before.before.before.before.before.before.«open».ensures c.before.before.before.before.before.before.before.before.before.ir-condition.ensures (sym c.before.before.before.before.told.ensures ∙ c.before.before.enum-told2.given.1) c.close.ensures
+ir_arm_returns_2 t c = arm_fails _ (λ z. omega (arith, z, c.before.before.before.before.before.before.before.before.before.before.before.before.before.before.before.before.before.before.before.before.requires.1.0.first)) (ap (λ (x : Node). x.a) c.before.before.before.before.before.before.before.before.before.before.before.before.before.before.before.before.node_at.ensures) refl c.before.before.before.before.before.before.before.before.before.before.before.before.before.before.before.before.before.before.before.before.requires.1.0.fits c.before.before.before.before.before.before.before.before.before.before.before.before.before.«open».ensures c.before.before.before.before.before.before.before.before.before.ir-condition.ensures (sym c.before.before.before.before.told.ensures ∙ c.before.before.enum-told2.given.1) c.close.ensures
 
 -- src/eval.rt:241:1
 pub ir_arm_same_length_5 : (t : ℕ) → ir-arm-lts.Need-same-length-5 (ir_arm_claims t) (ir_arm_at t) ir-arm.Post
@@ -116,4 +116,4 @@ ir_arm_same_length_6 t c = search rules
 
 -- src/eval.rt:241:1
 pub ir_arm_returns_3 : (t : ℕ) → ir-arm-lts.Need-returns-3 (ir_arm_claims t) (ir_arm_at t) ir-arm.Post
-ir_arm_returns_3 t c = out_of _ _ (arm_out _ (λ z. omega (arith, z, c.before.before.before.before.before.before.before.before.before.before.before.before.before.before.before.before.before.before.before.requires.1.0.first)) (ap (λ (x : Node). x.a) c.before.before.before.before.before.before.before.before.before.before.before.before.before.before.before.Node-at.ensures) refl c.before.before.before.before.before.before.before.before.before.before.before.before.before.before.before.before.before.before.before.requires.1.0.fits c.before.before.before.before.before.before.before.before.before.before.before.before.«open».ensures c.before.before.before.before.before.before.before.before.ir-condition.ensures (sym c.before.before.before.told.ensures ∙ c.before.r.given.1))
+ir_arm_returns_3 t c = out_of _ _ (arm_out _ (λ z. omega (arith, z, c.before.before.before.before.before.before.before.before.before.before.before.before.before.before.before.before.before.before.before.requires.1.0.first)) (ap (λ (x : Node). x.a) c.before.before.before.before.before.before.before.before.before.before.before.before.before.before.before.node_at.ensures) refl c.before.before.before.before.before.before.before.before.before.before.before.before.before.before.before.before.before.before.before.requires.1.0.fits c.before.before.before.before.before.before.before.before.before.before.before.before.«open».ensures c.before.before.before.before.before.before.before.before.ir-condition.ensures (sym c.before.before.before.told.ensures ∙ c.before.r.given.1))

@@ -34,7 +34,7 @@ unfolding row_of table
 ir_binary_ir_expr_requires t c κs =
     let r = c.before.before.before.before.before.before.before.requires.1.0 in
     let there = a_there r 2 c.before.before.before.before.before.before.before.requires.1.2 true false Expression refl (λ (e : true ≡ false). absurd (true≢false e)) in
-    (omega (arith, c.before.before.before.before.before.before.before.requires.0), ready_at r _ (rw (ap (λ (x : Node). x.a) c.before.before.before.Node-at.ensures) there) r.fits refl)
+    (omega (arith, c.before.before.before.before.before.before.before.requires.0), ready_at r _ (rw (ap (λ (x : Node). x.a) c.before.before.before.node_at.ensures) there) r.fits refl)
 
 -- src/eval.rt:139:23
 pub ir_binary_enum_known_first : (t : ℕ) → ir-binary-lts.Need-enum-known-first (ir_binary_claims t) (ir_binary_at t) ir-binary.Post
@@ -50,7 +50,7 @@ ir_binary_same_length_2 t c = search rules
 
 -- src/eval.rt:140:9
 pub ir_binary_returns : (t : ℕ) → ir-binary-lts.Need-returns (ir_binary_claims t) (ir_binary_at t) ir-binary.Post
-ir_binary_returns t c = left_past c.before.before.before.before.before.before.before.before.before.before.before.before.before.requires.1.2 (ap (λ (x : Node). x.a) c.before.before.before.before.before.before.before.before.before.Node-at.ensures) c.before.before.before.before.before.before.before.before.before.before.before.before.before.requires.1.0.fits c.before.before.before.before.before.ir-expr.ensures c.match.keys2
+ir_binary_returns t c = left_past c.before.before.before.before.before.before.before.before.before.before.before.before.before.requires.1.2 (ap (λ (x : Node). x.a) c.before.before.before.before.before.before.before.before.before.node_at.ensures) c.before.before.before.before.before.before.before.before.before.before.before.before.before.requires.1.0.fits c.before.before.before.before.before.ir-expr.ensures c.match.keys2
 
 -- src/eval.rt:142:65
 pub ir_binary_add_ir_expr_2 : (t : ℕ) → ir-binary-lts.Need-overflow-add-ir-expr-2 (ir_binary_claims t) (ir_binary_at t) ir-binary.Post
@@ -62,7 +62,7 @@ unfolding row_of table
 ir_binary_ir_expr_requires_2 t c κs =
     let r = c.before.before.before.before.before.before.before.before.before.before.before.before.before.before.before.before.before.before.requires.1.0 in
     let there = b_there r 2 c.before.before.before.before.before.before.before.before.before.before.before.before.before.before.before.before.before.before.requires.1.2 true false Expression refl (λ (e : true ≡ false). absurd (true≢false e)) in
-    (omega (arith, c.before.before.before.before.before.before.before.before.before.before.before.before.before.before.before.before.before.before.requires.0, no_more_post c.before.before.before.before.before.before.before.before.before.before.ir-expr.ensures), ready_at r _ (rw (ap (λ (x : Node). x.b) c.before.before.before.before.before.before.before.before.before.before.before.before.before.before.Node-at.ensures) there) c.before.before.before.before.before.before.before.before.before.before.ir-expr.ensures.fits c.before.before.before.before.before.before.before.before.before.before.ir-expr.ensures.room)
+    (omega (arith, c.before.before.before.before.before.before.before.before.before.before.before.before.before.before.before.before.before.before.requires.0, no_more_post c.before.before.before.before.before.before.before.before.before.before.ir-expr.ensures), ready_at r _ (rw (ap (λ (x : Node). x.b) c.before.before.before.before.before.before.before.before.before.before.before.before.before.before.node_at.ensures) there) c.before.before.before.before.before.before.before.before.before.before.ir-expr.ensures.fits c.before.before.before.before.before.before.before.before.before.before.ir-expr.ensures.room)
 
 -- src/eval.rt:143:5
 pub ir_binary_finish_binary_requires : (t : ℕ) → ir-binary-lts.Need-finish-binary-requires (ir_binary_claims t) (ir_binary_at t) ir-binary.Post
@@ -81,5 +81,5 @@ ir_binary_same_length_4 t c = search rules
 -- src/eval.rt:133:1
 pub ir_binary_returns_2 : (t : ℕ) → ir-binary-lts.Need-returns-2 (ir_binary_claims t) (ir_binary_at t) ir-binary.Post
 ir_binary_returns_2 t c =
-    right_done c.before.before.before.before.before.before.before.before.before.before.before.before.before.before.before.before.before.before.before.before.before.before.before.before.before.before.before.before.requires.1.2 (ap (λ (x : Node). x.a) c.before.before.before.before.before.before.before.before.before.before.before.before.before.before.before.before.before.before.before.before.before.before.before.before.Node-at.ensures) c.before.before.before.before.before.before.before.before.before.before.before.before.before.before.before.before.before.before.before.before.before.before.before.before.before.before.before.before.requires.1.0.fits c.before.before.before.before.before.before.before.before.before.before.before.before.before.before.before.before.before.before.before.before.ir-expr.ensures _ c.before.before.before.before.before.before.before.before.before.before.before.before.before.before.first.given.1
-    (ap (λ (x : Node). x.b) c.before.before.before.before.before.before.before.before.before.before.before.before.before.before.before.before.before.before.before.before.before.before.before.before.Node-at.ensures) c.before.before.before.before.before.before.before.before.before.ir-expr2.ensures c.before.before.finish-binary.ensures
+    right_done c.before.before.before.before.before.before.before.before.before.before.before.before.before.before.before.before.before.before.before.before.before.before.before.before.before.before.before.before.requires.1.2 (ap (λ (x : Node). x.a) c.before.before.before.before.before.before.before.before.before.before.before.before.before.before.before.before.before.before.before.before.before.before.before.before.node_at.ensures) c.before.before.before.before.before.before.before.before.before.before.before.before.before.before.before.before.before.before.before.before.before.before.before.before.before.before.before.before.requires.1.0.fits c.before.before.before.before.before.before.before.before.before.before.before.before.before.before.before.before.before.before.before.before.ir-expr.ensures _ c.before.before.before.before.before.before.before.before.before.before.before.before.before.before.first.given.1
+    (ap (λ (x : Node). x.b) c.before.before.before.before.before.before.before.before.before.before.before.before.before.before.before.before.before.before.before.before.before.before.before.before.node_at.ensures) c.before.before.before.before.before.before.before.before.before.ir-expr2.ensures c.before.before.finish-binary.ensures

@@ -37,7 +37,7 @@ ir_branches_node_at_requires t c κs = (c.before.before.before.requires.1.0.firs
 
 -- src/eval.rt:273:5
 pub ir_branches_loop_holds : (t : ℕ) → ir-branches-lts.Need-loop-init (ir_branches_claims t) (ir_branches_at t) ir-branches.Post ir_branches_Inv_loop ir_branches_μ_loop
-ir_branches_loop_holds t c = chain_begins c.before.before.before.before.requires.1.0.fits (ap (λ (x : Node). x.a) c.Node-at.ensures)
+ir_branches_loop_holds t c = chain_begins c.before.before.before.before.requires.1.0.fits (ap (λ (x : Node). x.a) c.node_at.ensures)
 
 -- src/eval.rt:274:13
 pub ir_branches_ir_arm_requires : (t : ℕ) → ir-branches-lts.Need-ir-arm-requires (ir_branches_claims t) (ir_branches_at t) ir-branches.Post ir_branches_Inv_loop ir_branches_μ_loop
@@ -63,7 +63,7 @@ ir_branches_same_length_2 t c = search rules
 
 -- src/eval.rt:276:13
 pub ir_branches_returns : (t : ℕ) → ir-branches-lts.Need-returns (ir_branches_claims t) (ir_branches_at t) ir-branches.Post ir_branches_Inv_loop ir_branches_μ_loop
-ir_branches_returns t c = on_post (branches_way c.before.before.before.before.before.before.before.before.before.before.before.before.before.before.before.before.before.requires.1.0.fits c.before.before.before.before.before.before.before.before.before.before.before.before.before.before.before.before.before.requires.1.2 (ap (λ (x : Node). x.a) c.before.before.before.before.before.before.before.before.before.before.before.before.before.Node-at.ensures)) (on_post c.before.before.before.before.before.before.before.before.before.before.before.before.loop.invariant.reached (out_is c.before.before.before.before.before.before.before.ir-arm.ensures c.before.one.given.1))
+ir_branches_returns t c = on_post (branches_way c.before.before.before.before.before.before.before.before.before.before.before.before.before.before.before.before.before.requires.1.0.fits c.before.before.before.before.before.before.before.before.before.before.before.before.before.before.before.before.before.requires.1.2 (ap (λ (x : Node). x.a) c.before.before.before.before.before.before.before.before.before.before.before.before.before.node_at.ensures)) (on_post c.before.before.before.before.before.before.before.before.before.before.before.before.loop.invariant.reached (out_is c.before.before.before.before.before.before.before.ir-arm.ensures c.before.one.given.1))
 
 pub ir_branches_enum_told : (t : ℕ) → ir-branches-lts.Need-enum-told (ir_branches_claims t) (ir_branches_at t) ir-branches.Post ir_branches_Inv_loop ir_branches_μ_loop
 ir_branches_enum_told t c = search rules
@@ -124,4 +124,4 @@ ir_branches_same_length_4 t c = search rules
 
 -- src/eval.rt:268:1
 pub ir_branches_returns_2 : (t : ℕ) → ir-branches-lts.Need-returns-2 (ir_branches_claims t) (ir_branches_at t) ir-branches.Post ir_branches_Inv_loop ir_branches_μ_loop
-ir_branches_returns_2 t c = on_post (branches_way c.before.before.before.before.before.before.before.before.before.before.before.before.before.before.requires.1.0.fits c.before.before.before.before.before.before.before.before.before.before.before.before.before.before.requires.1.2 (ap (λ (x : Node). x.a) c.before.before.before.before.before.before.before.before.before.before.Node-at.ensures)) (on_post (arms_end c.before.before.before.before.before.before.before.before.loop-test.false c.before.before.before.before.before.before.before.before.before.loop.invariant.reached) c.before.before.before.before.ir-default.ensures)
+ir_branches_returns_2 t c = on_post (branches_way c.before.before.before.before.before.before.before.before.before.before.before.before.before.before.requires.1.0.fits c.before.before.before.before.before.before.before.before.before.before.before.before.before.before.requires.1.2 (ap (λ (x : Node). x.a) c.before.before.before.before.before.before.before.before.before.before.node_at.ensures)) (on_post (arms_end c.before.before.before.before.before.before.before.before.loop-test.false c.before.before.before.before.before.before.before.before.before.loop.invariant.reached) c.before.before.before.before.ir-default.ensures)

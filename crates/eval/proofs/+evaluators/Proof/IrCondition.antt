@@ -42,7 +42,7 @@ ir_condition_same_length_2 t c = search rules
 
 -- src/eval.rt:234:9
 pub ir_condition_returns : (t : ℕ) → ir-condition-lts.Need-returns (ir_condition_claims t) (ir_condition_at t) ir-condition.Post
-ir_condition_returns t c = condition_done c.before.before.before.before.before.before.before.before.before.before.before.before.before.before.requires.1.0.fits (λ z. c.before.before.before.before.before.before.before.before.if1.true (ap (λ (x : Node). x.kind) c.before.before.before.before.before.before.before.before.before.before.Node-at.ensures ∙ z)) c.before.before.before.before.ir-expr.ensures
+ir_condition_returns t c = condition_done c.before.before.before.before.before.before.before.before.before.before.before.before.before.before.requires.1.0.fits (λ z. c.before.before.before.before.before.before.before.before.if1.true (ap (λ (x : Node). x.kind) c.before.before.before.before.before.before.before.before.before.before.node_at.ensures ∙ z)) c.before.before.before.before.ir-expr.ensures
 
 -- src/eval.rt:236:62
 pub ir_condition_add_ir_expr_2 : (t : ℕ) → ir-condition-lts.Need-overflow-add-ir-expr-2 (ir_condition_claims t) (ir_condition_at t) ir-condition.Post
@@ -53,8 +53,8 @@ pub ir_condition_ir_expr_requires_2 : (t : ℕ) → ir-condition-lts.Need-ir-exp
 unfolding row_of table
 ir_condition_ir_expr_requires_2 t c κs =
     let r = c.before.before.before.before.before.before.before.before.before.requires.1.0 in
-    let there = a_there r 20 (ap (λ (x : Node). x.kind) (sym c.before.before.before.before.before.Node-at.ensures) ∙ c.before.before.before.if1.false) true false Expression refl (λ (e : true ≡ false). absurd (true≢false e)) in
-    (omega (arith, c.before.before.before.before.before.before.before.before.before.requires.0), ready_at r _ (rw (ap (λ (x : Node). x.a) c.before.before.before.before.before.Node-at.ensures) there) r.fits refl)
+    let there = a_there r 20 (ap (λ (x : Node). x.kind) (sym c.before.before.before.before.before.node_at.ensures) ∙ c.before.before.before.if1.false) true false Expression refl (λ (e : true ≡ false). absurd (true≢false e)) in
+    (omega (arith, c.before.before.before.before.before.before.before.before.before.requires.0), ready_at r _ (rw (ap (λ (x : Node). x.a) c.before.before.before.before.before.node_at.ensures) there) r.fits refl)
 
 -- src/eval.rt:237:5
 pub ir_condition_finish_let_requires : (t : ℕ) → ir-condition-lts.Need-finish-let-requires (ir_condition_claims t) (ir_condition_at t) ir-condition.Post
@@ -70,4 +70,4 @@ ir_condition_same_length_4 t c = search rules
 
 -- src/eval.rt:228:1
 pub ir_condition_returns_2 : (t : ℕ) → ir-condition-lts.Need-returns-2 (ir_condition_claims t) (ir_condition_at t) ir-condition.Post
-ir_condition_returns_2 t c = let_done c.before.before.before.before.before.before.before.before.before.before.before.before.before.before.before.before.before.before.before.requires.1.0.fits _ (ap (λ (x : Node). x.kind) (sym c.before.before.before.before.before.before.before.before.before.before.before.before.before.before.before.Node-at.ensures) ∙ c.before.before.before.before.before.before.before.before.before.before.before.before.before.if1.false) (ap (λ (x : Node). x.a) c.before.before.before.before.before.before.before.before.before.before.before.before.before.before.before.Node-at.ensures) c.before.before.before.before.before.before.before.before.before.ir-expr2.ensures c.before.before.finish-let.ensures
+ir_condition_returns_2 t c = let_done c.before.before.before.before.before.before.before.before.before.before.before.before.before.before.before.before.before.before.before.requires.1.0.fits _ (ap (λ (x : Node). x.kind) (sym c.before.before.before.before.before.before.before.before.before.before.before.before.before.before.before.node_at.ensures) ∙ c.before.before.before.before.before.before.before.before.before.before.before.before.before.if1.false) (ap (λ (x : Node). x.a) c.before.before.before.before.before.before.before.before.before.before.before.before.before.before.before.node_at.ensures) c.before.before.before.before.before.before.before.before.before.ir-expr2.ensures c.before.before.finish-let.ensures

@@ -25,7 +25,7 @@ ir_default_node_at_requires t c κs = (c.before.before.before.requires.1.0.first
 
 -- src/eval.rt:290:9
 pub ir_default_returns : (t : ℕ) → ir-default-lts.Need-returns (ir_default_claims t) (ir_default_at t) ir-default.Post
-ir_default_returns t c = default_unit c.before.before.before.before.before.before.requires.1.0.fits (ap (λ (x : Node). x.b) (sym c.before.before.Node-at.ensures) ∙ c.if1.true)
+ir_default_returns t c = default_unit c.before.before.before.before.before.before.requires.1.0.fits (ap (λ (x : Node). x.b) (sym c.before.before.node_at.ensures) ∙ c.if1.true)
 
 -- src/eval.rt:292:52
 pub ir_default_add_ir_body : (t : ℕ) → ir-default-lts.Need-overflow-add-ir-body (ir_default_claims t) (ir_default_at t) ir-default.Post
@@ -36,7 +36,7 @@ pub ir_default_ir_body_requires : (t : ℕ) → ir-default-lts.Need-ir-body-requ
 unfolding row_of table
 ir_default_ir_body_requires t c κs =
     let r = c.before.before.before.before.before.before.before.before.before.requires.1.0 in
-    let e = ap (λ (x : Node). x.b) c.before.before.before.before.before.Node-at.ensures in
+    let e = ap (λ (x : Node). x.b) c.before.before.before.before.before.node_at.ensures in
     let there = b_there r 10 c.before.before.before.before.before.before.before.before.before.requires.1.2 false false Scope refl (λ _ z. c.before.before.before.if1.false (e ∙ z)) in
     (omega (arith, c.before.before.before.before.before.before.before.before.before.requires.0), ready_at r _ (rw e there) r.fits refl)
 
@@ -50,4 +50,4 @@ ir_default_same_length_2 t c = search rules
 
 -- src/eval.rt:284:1
 pub ir_default_returns_2 : (t : ℕ) → ir-default-lts.Need-returns-2 (ir_default_claims t) (ir_default_at t) ir-default.Post
-ir_default_returns_2 t c = default_done c.before.before.before.before.before.before.before.before.before.before.before.before.before.before.requires.1.0.fits (ap (λ (x : Node). x.b) c.before.before.before.before.before.before.before.before.before.before.Node-at.ensures) c.before.before.before.before.before.before.before.before.if1.false c.before.before.before.before.ir-body.ensures
+ir_default_returns_2 t c = default_done c.before.before.before.before.before.before.before.before.before.before.before.before.before.before.requires.1.0.fits (ap (λ (x : Node). x.b) c.before.before.before.before.before.before.before.before.before.before.node_at.ensures) c.before.before.before.before.before.before.before.before.if1.false c.before.before.before.before.ir-body.ensures

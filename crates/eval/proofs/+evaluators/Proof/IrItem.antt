@@ -26,7 +26,7 @@ ir_item_node_at_requires t c κs = (c.before.before.before.requires.1.2.first, c
 pub ir_item_returns : (t : ℕ) → ir-item-lts.Need-returns (ir_item_claims t) (ir_item_at t) ir-item.Post
 ir_item_returns t c =
     let it = c.before.before.before.before.before.before.requires.1.2 in
-    item_skipped (λ z. omega (arith, z, it.first)) c.before.before.before.before.before.before.requires.1.0.fits (ap (λ (x : Node). x.kind) (sym c.before.before.Node-at.ensures) ∙ c.if1.true)
+    item_skipped (λ z. omega (arith, z, it.first)) c.before.before.before.before.before.before.requires.1.0.fits (ap (λ (x : Node). x.kind) (sym c.before.before.node_at.ensures) ∙ c.if1.true)
 
 -- src/eval.rt:181:9
 pub ir_item_item_node_requires : (t : ℕ) → ir-item-lts.Need-item-node-requires (ir_item_claims t) (ir_item_at t) ir-item.Post
@@ -44,7 +44,7 @@ ir_item_ir_expr_requires t c κs =
     let r = c.before.before.before.before.before.before.before.before.before.before.requires.1.0 in
     let it = c.before.before.before.before.before.before.before.before.before.before.requires.1.2 in
     let e = c.before.before.before.item-node.ensures in
-    (omega (arith, c.before.before.before.before.before.before.before.before.before.before.requires.0), ready_at r _ (rw e (it.inner_first (λ z. c.before.before.before.before.if1.false (ap (λ (x : Node). x.kind) c.before.before.before.before.before.before.Node-at.ensures ∙ z)), it.inner_last (λ z. c.before.before.before.before.if1.false (ap (λ (x : Node). x.kind) c.before.before.before.before.before.before.Node-at.ensures ∙ z)))) r.fits refl)
+    (omega (arith, c.before.before.before.before.before.before.before.before.before.before.requires.0), ready_at r _ (rw e (it.inner_first (λ z. c.before.before.before.before.if1.false (ap (λ (x : Node). x.kind) c.before.before.before.before.before.before.node_at.ensures ∙ z)), it.inner_last (λ z. c.before.before.before.before.if1.false (ap (λ (x : Node). x.kind) c.before.before.before.before.before.before.node_at.ensures ∙ z)))) r.fits refl)
 
 -- src/eval.rt:183:5
 pub ir_item_finish_item_requires : (t : ℕ) → ir-item-lts.Need-finish-item-requires (ir_item_claims t) (ir_item_at t) ir-item.Post
@@ -62,4 +62,4 @@ ir_item_same_length_2 t c = search rules
 pub ir_item_returns_2 : (t : ℕ) → ir-item-lts.Need-returns-2 (ir_item_claims t) (ir_item_at t) ir-item.Post
 ir_item_returns_2 t c =
     let it = c.before.before.before.before.before.before.before.before.before.before.before.before.before.before.before.before.before.before.before.before.requires.1.2 in
-    item_done (λ z. omega (arith, z, it.first)) c.before.before.before.before.before.before.before.before.before.before.before.before.before.before.before.before.before.before.before.before.requires.1.0.fits _ (λ z. c.before.before.before.before.before.before.before.before.before.before.before.before.before.before.if1.false (ap (λ (x : Node). x.kind) c.before.before.before.before.before.before.before.before.before.before.before.before.before.before.before.before.Node-at.ensures ∙ z)) c.before.before.before.before.before.before.before.before.before.before.before.before.before.item-node.ensures c.before.before.before.before.before.before.before.before.before.ir-expr.ensures c.before.before.finish-item.ensures
+    item_done (λ z. omega (arith, z, it.first)) c.before.before.before.before.before.before.before.before.before.before.before.before.before.before.before.before.before.before.before.before.requires.1.0.fits _ (λ z. c.before.before.before.before.before.before.before.before.before.before.before.before.before.before.if1.false (ap (λ (x : Node). x.kind) c.before.before.before.before.before.before.before.before.before.before.before.before.before.before.before.before.node_at.ensures ∙ z)) c.before.before.before.before.before.before.before.before.before.before.before.before.before.item-node.ensures c.before.before.before.before.before.before.before.before.before.ir-expr.ensures c.before.before.finish-item.ensures

@@ -32,7 +32,7 @@ ir_items_node_at_requires t c κs = (c.before.before.before.requires.1.0.first, 
 
 -- src/eval.rt:162:5
 pub ir_items_loop_holds : (t : ℕ) → ir-items-lts.Need-loop-init (ir_items_claims t) (ir_items_at t) ir-items.Post ir_items_Inv_loop ir_items_μ_loop
-ir_items_loop_holds t c = chain_begins c.before.before.before.before.requires.1.0.fits (ap (λ (x : Node). x.a) c.Node-at.ensures)
+ir_items_loop_holds t c = chain_begins c.before.before.before.before.requires.1.0.fits (ap (λ (x : Node). x.a) c.node_at.ensures)
 
 -- src/eval.rt:163:13
 pub ir_items_ir_item_requires : (t : ℕ) → ir-items-lts.Need-ir-item-requires (ir_items_claims t) (ir_items_at t) ir-items.Post ir_items_Inv_loop ir_items_μ_loop
@@ -60,7 +60,7 @@ ir_items_same_length_2 t c = search rules
 
 -- src/eval.rt:165:13
 pub ir_items_returns : (t : ℕ) → ir-items-lts.Need-returns (ir_items_claims t) (ir_items_at t) ir-items.Post ir_items_Inv_loop ir_items_μ_loop
-ir_items_returns t c = on_then (items_start c.before.before.before.before.before.before.before.before.before.before.before.before.before.before.before.before.requires.1.0.fits (ap (λ (x : Node). x.a) c.before.before.before.before.before.before.before.before.before.before.before.before.Node-at.ensures)) (on_then c.before.before.before.before.before.before.before.before.before.before.before.loop.invariant.reached (still_out c.before.before.before.before.before.before.ir-item.ensures c.before.match.keys2))
+ir_items_returns t c = on_then (items_start c.before.before.before.before.before.before.before.before.before.before.before.before.before.before.before.before.requires.1.0.fits (ap (λ (x : Node). x.a) c.before.before.before.before.before.before.before.before.before.before.before.before.node_at.ensures)) (on_then c.before.before.before.before.before.before.before.before.before.before.before.loop.invariant.reached (still_out c.before.before.before.before.before.before.ir-item.ensures c.before.match.keys2))
 
 -- src/eval.rt:167:38
 pub ir_items_cast_node_at : (t : ℕ) → ir-items-lts.Need-overflow-cast-node-at (ir_items_claims t) (ir_items_at t) ir-items.Post ir_items_Inv_loop ir_items_μ_loop
@@ -111,4 +111,4 @@ ir_items_same_length_4 t c = search rules
 
 -- src/eval.rt:157:1
 pub ir_items_returns_2 : (t : ℕ) → ir-items-lts.Need-returns-2 (ir_items_claims t) (ir_items_at t) ir-items.Post ir_items_Inv_loop ir_items_μ_loop
-ir_items_returns_2 t c = on_then (items_start c.before.before.before.before.before.before.requires.1.0.fits (ap (λ (x : Node). x.a) c.before.before.Node-at.ensures)) (items_end c.loop-test.false c.before.loop.invariant.reached)
+ir_items_returns_2 t c = on_then (items_start c.before.before.before.before.before.before.requires.1.0.fits (ap (λ (x : Node). x.a) c.before.before.node_at.ensures)) (items_end c.loop-test.false c.before.loop.invariant.reached)

@@ -31,7 +31,7 @@ ir_last_close_requires t c κs = search rules
 
 -- src/eval.rt:127:9
 pub ir_last_returns : (t : ℕ) → ir-last-lts.Need-returns (ir_last_claims t) (ir_last_at t) ir-last.Post
-ir_last_returns t c = scope_unit (ap (λ (x : Node). x.b) (sym c.before.before.before.before.Node-at.ensures) ∙ c.before.before.if1.true) c.before.before.before.before.before.before.before.before.requires.1.0.fits c.close.ensures
+ir_last_returns t c = scope_unit (ap (λ (x : Node). x.b) (sym c.before.before.before.before.node_at.ensures) ∙ c.before.before.if1.true) c.before.before.before.before.before.before.before.before.requires.1.0.fits c.close.ensures
 
 -- src/eval.rt:129:62
 pub ir_last_add_ir_expr : (t : ℕ) → ir-last-lts.Need-overflow-add-ir-expr (ir_last_claims t) (ir_last_at t) ir-last.Post
@@ -42,7 +42,7 @@ pub ir_last_ir_expr_requires : (t : ℕ) → ir-last-lts.Need-ir-expr-requires (
 unfolding row_of table
 ir_last_ir_expr_requires t c κs =
     let r = c.before.before.before.before.before.before.before.before.before.requires.1.0 in
-    let e = ap (λ (x : Node). x.b) c.before.before.before.before.before.Node-at.ensures in
+    let e = ap (λ (x : Node). x.b) c.before.before.before.before.before.node_at.ensures in
     let there = b_there r 1 c.before.before.before.before.before.before.before.before.before.requires.1.2 false false Expression refl (λ _ z. c.before.before.before.if1.false (e ∙ z)) in
     (omega (arith, c.before.before.before.before.before.before.before.before.before.requires.0), ready_at r _ (rw e there) r.fits refl)
 
@@ -60,4 +60,4 @@ ir_last_same_length_2 t c = search rules
 
 -- src/eval.rt:120:1
 pub ir_last_returns_2 : (t : ℕ) → ir-last-lts.Need-returns-2 (ir_last_claims t) (ir_last_at t) ir-last.Post
-ir_last_returns_2 t c = scope_last _ _ (ap (λ (x : Node). x.b) c.before.before.before.before.before.before.before.before.before.before.before.before.Node-at.ensures) c.before.before.before.before.before.before.before.before.before.before.if1.false c.before.before.before.before.before.before.before.before.before.before.before.before.before.before.before.before.requires.1.0.fits c.before.before.before.before.before.before.ir-expr.ensures c.leave-scope.ensures
+ir_last_returns_2 t c = scope_last _ _ (ap (λ (x : Node). x.b) c.before.before.before.before.before.before.before.before.before.before.before.before.node_at.ensures) c.before.before.before.before.before.before.before.before.before.before.if1.false c.before.before.before.before.before.before.before.before.before.before.before.before.before.before.before.before.requires.1.0.fits c.before.before.before.before.before.before.ir-expr.ensures c.leave-scope.ensures

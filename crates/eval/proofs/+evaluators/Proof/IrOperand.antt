@@ -36,7 +36,7 @@ ir_operand_add_ir_expr t c = search rules
 pub ir_operand_ir_expr_requires : (t : ℕ) → ir-operand-lts.Need-ir-expr-requires (ir_operand_claims t) (ir_operand_at t) ir-operand.Post
 ir_operand_ir_expr_requires t c κs =
     let r = c.before.before.before.before.before.before.before.before.requires.1.0 in
-    let e = c.before.before.before.operand-of.ensures ∙ ap (λ (x : Node). operand_of (kind_of x.kind) x) c.before.before.before.before.Node-at.ensures in
+    let e = c.before.before.before.operand-of.ensures ∙ ap (λ (x : Node). operand_of (kind_of x.kind) x) c.before.before.before.before.node_at.ensures in
     (omega (arith, c.before.before.before.before.before.before.before.before.requires.0), ready_at r _ (rw e (operand_there r c.before.before.before.before.before.before.before.before.requires.1.2 c.before.before.before.before.before.before.before.before.requires.1.3)) r.fits refl)
 
 -- src/eval.rt:153:5
@@ -54,5 +54,5 @@ ir_operand_same_length_2 t c = search rules
 -- src/eval.rt:147:1
 pub ir_operand_returns : (t : ℕ) → ir-operand-lts.Need-returns (ir_operand_claims t) (ir_operand_at t) ir-operand.Post
 ir_operand_returns t c =
-    let e = c.before.before.before.before.before.before.before.before.before.before.before.before.before.operand-of.ensures ∙ ap (λ (x : Node). operand_of (kind_of x.kind) x) c.before.before.before.before.before.before.before.before.before.before.before.before.before.before.Node-at.ensures in
+    let e = c.before.before.before.before.before.before.before.before.before.before.before.before.before.operand-of.ensures ∙ ap (λ (x : Node). operand_of (kind_of x.kind) x) c.before.before.before.before.before.before.before.before.before.before.before.before.before.before.node_at.ensures in
     operand_done c.before.before.before.before.before.before.before.before.before.before.before.before.before.before.before.before.before.before.requires.1.0.fits _ c.before.before.before.before.before.before.before.before.before.before.before.before.before.before.before.before.before.before.requires.1.2 e (λ z. c.before.before.before.before.before.before.before.before.before.before.before.before.before.before.before.before.before.before.requires.1.3 (sym e ∙ z)) c.before.before.before.before.before.before.before.before.before.ir-expr.ensures c.before.before.finish-operand.ensures

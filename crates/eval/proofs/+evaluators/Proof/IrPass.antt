@@ -38,7 +38,7 @@ unfolding row_of table
 ir_pass_ir_body_requires t c κs =
     let r = c.before.before.before.before.before.before.before.before.requires.1.0 in
     let there = b_there r 11 c.before.before.before.before.before.before.before.before.requires.1.2 true false Scope refl (λ (e : true ≡ false). absurd (true≢false e)) in
-    (omega (arith, c.before.before.before.before.before.before.before.before.requires.0), ready_at r _ (rw (ap (λ (x : Node). x.b) c.before.before.before.before.Node-at.ensures) there) r.fits refl)
+    (omega (arith, c.before.before.before.before.before.before.before.before.requires.0), ready_at r _ (rw (ap (λ (x : Node). x.b) c.before.before.before.before.node_at.ensures) there) r.fits refl)
 
 -- src/eval.rt:338:5
 pub ir_pass_after_pass_requires : (t : ℕ) → ir-pass-lts.Need-after-pass-requires (ir_pass_claims t) (ir_pass_at t) ir-pass.Post
@@ -55,5 +55,5 @@ ir_pass_same_length_2 t c = search rules
 -- src/eval.rt:331:1
 pub ir_pass_returns : (t : ℕ) → ir-pass-lts.Need-returns (ir_pass_claims t) (ir_pass_at t) ir-pass.Post
 ir_pass_returns t c =
-    let e = ap (λ (x : Node). x.b) c.before.before.before.before.before.before.before.before.before.before.before.Node-at.ensures in
+    let e = ap (λ (x : Node). x.b) c.before.before.before.before.before.before.before.before.before.before.before.node_at.ensures in
     (pass_done _ c.before.before.before.before.before.before.before.before.before.before.before.before.before.before.before.requires.1.0.fits c.before.before.before.before.before.before.ir-body.ensures c.after-pass.ensures e refl, record { less = pass_falls _ c.before.before.before.before.before.before.ir-body.ensures c.after-pass.ensures })

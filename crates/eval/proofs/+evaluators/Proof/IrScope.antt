@@ -46,7 +46,7 @@ ir_scope_open_requires t c κs = search rules
 
 -- src/eval.rt:109:5
 pub ir_scope_loop_holds : (t : ℕ) → ir-scope-lts.Need-loop-init (ir_scope_claims t) (ir_scope_at t) ir-scope.Post ir_scope_Inv_loop ir_scope_μ_loop
-ir_scope_loop_holds t c = chain_begins (c.«open».ensures _ [] c.before.before.before.before.before.before.before.requires.1.0.fits).kept.fits (ap (λ (x : Node). x.a) c.before.before.before.Node-at.ensures)
+ir_scope_loop_holds t c = chain_begins (c.«open».ensures _ [] c.before.before.before.before.before.before.before.requires.1.0.fits).kept.fits (ap (λ (x : Node). x.a) c.before.before.before.node_at.ensures)
 
 -- src/eval.rt:110:61
 pub ir_scope_add_ir_expr : (t : ℕ) → ir-scope-lts.Need-overflow-add-ir-expr (ir_scope_claims t) (ir_scope_at t) ir-scope.Post ir_scope_Inv_loop ir_scope_μ_loop
@@ -76,7 +76,7 @@ ir_scope_same_length_2 t c = search rules
 -- src/eval.rt:112:13
 pub ir_scope_returns : (t : ℕ) → ir-scope-lts.Need-returns (ir_scope_claims t) (ir_scope_at t) ir-scope.Post ir_scope_Inv_loop ir_scope_μ_loop
 ir_scope_returns t c =
-    on_post (scope_begun c.before.before.before.before.before.before.before.before.before.before.before.before.before.before.before.before.before.before.requires.1.2 (ap (λ (x : Node). x.a) c.before.before.before.before.before.before.before.before.before.before.before.before.before.before.Node-at.ensures) refl c.before.before.before.before.before.before.before.before.before.before.before.before.before.before.before.before.before.before.requires.1.0.fits c.before.before.before.before.before.before.before.before.before.before.before.«open».ensures)
+    on_post (scope_begun c.before.before.before.before.before.before.before.before.before.before.before.before.before.before.before.before.before.before.requires.1.2 (ap (λ (x : Node). x.a) c.before.before.before.before.before.before.before.before.before.before.before.before.before.before.node_at.ensures) refl c.before.before.before.before.before.before.before.before.before.before.before.before.before.before.before.before.before.before.requires.1.0.fits c.before.before.before.before.before.before.before.before.before.before.before.«open».ensures)
     (instruction_past c.before.before.before.before.before.before.before.before.before.before.loop.invariant.reached c.before.before.before.before.before.before.before.before.before.loop-test.true c.before.before.before.before.before.ir-expr.ensures c.match.keys2)
 
 -- src/eval.rt:114:38
@@ -134,5 +134,5 @@ ir_scope_same_length_4 t c = search rules
 -- src/eval.rt:101:1
 pub ir_scope_returns_2 : (t : ℕ) → ir-scope-lts.Need-returns-2 (ir_scope_claims t) (ir_scope_at t) ir-scope.Post ir_scope_Inv_loop ir_scope_μ_loop
 ir_scope_returns_2 t c =
-    on_post (scope_begun c.before.before.before.before.before.before.before.before.before.before.before.before.before.before.before.before.before.requires.1.2 (ap (λ (x : Node). x.a) c.before.before.before.before.before.before.before.before.before.before.before.before.before.Node-at.ensures) refl c.before.before.before.before.before.before.before.before.before.before.before.before.before.before.before.before.before.requires.1.0.fits c.before.before.before.before.before.before.before.before.before.before.«open».ensures)
+    on_post (scope_begun c.before.before.before.before.before.before.before.before.before.before.before.before.before.before.before.before.before.requires.1.2 (ap (λ (x : Node). x.a) c.before.before.before.before.before.before.before.before.before.before.before.before.before.node_at.ensures) refl c.before.before.before.before.before.before.before.before.before.before.before.before.before.before.before.before.before.requires.1.0.fits c.before.before.before.before.before.before.before.before.before.before.«open».ensures)
     (on_post (instructions_end c.before.before.before.before.before.before.before.before.loop-test.false c.before.before.before.before.before.before.before.before.before.loop.invariant.reached) c.before.before.before.before.ir-last.ensures)

@@ -43,7 +43,7 @@ ir_turn_same_length_2 t c = search rules
 
 -- src/eval.rt:316:9
 pub ir_turn_returns : (t : ℕ) → ir-turn-lts.Need-returns (ir_turn_claims t) (ir_turn_at t) ir-turn.Post
-ir_turn_returns t c = (on_then (turn_bare c.before.before.before.before.before.before.before.before.before.before.before.before.before.before.requires.1.0.fits (ap (λ (x : Node). x.a) (sym c.before.before.before.before.before.before.before.before.before.before.Node-at.ensures) ∙ c.before.before.before.before.before.before.before.before.if1.true)) c.before.before.before.before.ir-pass.ensures.0, c.before.before.before.before.ir-pass.ensures.1)
+ir_turn_returns t c = (on_then (turn_bare c.before.before.before.before.before.before.before.before.before.before.before.before.before.before.requires.1.0.fits (ap (λ (x : Node). x.a) (sym c.before.before.before.before.before.before.before.before.before.before.node_at.ensures) ∙ c.before.before.before.before.before.before.before.before.if1.true)) c.before.before.before.before.ir-pass.ensures.0, c.before.before.before.before.ir-pass.ensures.1)
 
 -- src/eval.rt:318:5
 pub ir_turn_empty_requires : (t : ℕ) → ir-turn-lts.Need-empty-requires (ir_turn_claims t) (ir_turn_at t) ir-turn.Post
@@ -55,7 +55,7 @@ unfolding row_of table
 ir_turn_ir_condition_requires t c κs =
     let r = c.before.before.before.before.before.before.before.before.before.before.before.requires.1.0 in
     let emptied = c.before.before.before.empty.ensures _ [] r.fits in
-    let e = ap (λ (x : Node). x.a) c.before.before.before.before.before.before.before.Node-at.ensures in
+    let e = ap (λ (x : Node). x.a) c.before.before.before.before.before.before.before.node_at.ensures in
     let there = a_there r 11 c.before.before.before.before.before.before.before.before.before.before.before.requires.1.2 false false Condition refl (λ _ z. c.before.before.before.before.before.if1.false (e ∙ z)) in
     (omega (arith, c.before.before.before.before.before.before.before.before.before.before.before.requires.0, emptied.kept.takes), (ready_at r _ (rw e there) emptied.kept.fits refl, c.before.before.before.before.before.before.before.before.before.before.before.requires.1.1))
 
@@ -98,7 +98,7 @@ ir_turn_same_length_4 t c = search rules
 -- src/eval.rt:310:1
 pub ir_turn_returns_2 : (t : ℕ) → ir-turn-lts.Need-returns-2 (ir_turn_claims t) (ir_turn_at t) ir-turn.Post
 ir_turn_returns_2 t c =
-    let way = turn_holds _ (ap (λ (x : Node). x.a) c.before.before.before.before.before.before.before.before.before.before.before.before.before.before.before.before.before.before.before.before.before.before.before.Node-at.ensures) c.before.before.before.before.before.before.before.before.before.before.before.before.before.before.before.before.before.before.before.before.before.if1.false c.before.before.before.before.before.before.before.before.before.before.before.before.before.before.before.before.before.before.before.before.before.before.before.before.before.before.before.requires.1.0.fits c.before.before.before.before.before.before.before.before.before.before.before.before.before.before.before.before.before.before.before.empty.ensures c.before.before.before.before.before.before.before.before.before.before.before.before.before.before.before.ir-condition.ensures (sym c.before.before.before.before.before.before.before.before.before.before.told.ensures ∙ c.before.before.before.before.before.before.before.before.enum_told.given.1) in
+    let way = turn_holds _ (ap (λ (x : Node). x.a) c.before.before.before.before.before.before.before.before.before.before.before.before.before.before.before.before.before.before.before.before.before.before.before.node_at.ensures) c.before.before.before.before.before.before.before.before.before.before.before.before.before.before.before.before.before.before.before.before.before.if1.false c.before.before.before.before.before.before.before.before.before.before.before.before.before.before.before.before.before.before.before.before.before.before.before.before.before.before.before.requires.1.0.fits c.before.before.before.before.before.before.before.before.before.before.before.before.before.before.before.before.before.before.before.empty.ensures c.before.before.before.before.before.before.before.before.before.before.before.before.before.before.before.ir-condition.ensures (sym c.before.before.before.before.before.before.before.before.before.before.told.ensures ∙ c.before.before.before.before.before.before.before.before.enum_told.given.1) in
     let pass = c.before.before.before.before.ir-pass2.ensures in
     (on_then way pass.0, falls_after (no_more way) pass.1)
 
@@ -112,7 +112,7 @@ ir_turn_same_length_6 t c = search rules
 
 -- src/eval.rt:310:1
 pub ir_turn_returns_3 : (t : ℕ) → ir-turn-lts.Need-returns-3 (ir_turn_claims t) (ir_turn_at t) ir-turn.Post
-ir_turn_returns_3 t c = (out_of _ _ (turn_fails _ (ap (λ (x : Node). x.a) c.before.before.before.before.before.before.before.before.before.before.before.before.before.before.before.before.before.Node-at.ensures) c.before.before.before.before.before.before.before.before.before.before.before.before.before.before.before.if1.false c.before.before.before.before.before.before.before.before.before.before.before.before.before.before.before.before.before.before.before.before.before.requires.1.0.fits c.before.before.before.before.before.before.before.before.before.before.before.before.before.empty.ensures c.before.before.before.before.before.before.before.before.before.ir-condition.ensures (sym c.before.before.before.before.told.ensures ∙ c.before.before.enum-told2.given.1) c.close.ensures), never_on)
+ir_turn_returns_3 t c = (out_of _ _ (turn_fails _ (ap (λ (x : Node). x.a) c.before.before.before.before.before.before.before.before.before.before.before.before.before.before.before.before.before.node_at.ensures) c.before.before.before.before.before.before.before.before.before.before.before.before.before.before.before.if1.false c.before.before.before.before.before.before.before.before.before.before.before.before.before.before.before.before.before.before.before.before.before.requires.1.0.fits c.before.before.before.before.before.before.before.before.before.before.before.before.before.empty.ensures c.before.before.before.before.before.before.before.before.before.ir-condition.ensures (sym c.before.before.before.before.told.ensures ∙ c.before.before.enum-told2.given.1) c.close.ensures), never_on)
 
 -- src/eval.rt:310:1
 pub ir_turn_same_length_7 : (t : ℕ) → ir-turn-lts.Need-same-length-7 (ir_turn_claims t) (ir_turn_at t) ir-turn.Post
@@ -124,4 +124,4 @@ ir_turn_same_length_8 t c = search rules
 
 -- src/eval.rt:310:1
 pub ir_turn_returns_4 : (t : ℕ) → ir-turn-lts.Need-returns-4 (ir_turn_claims t) (ir_turn_at t) ir-turn.Post
-ir_turn_returns_4 t c = (out_of _ _ (turn_out _ (ap (λ (x : Node). x.a) c.before.before.before.before.before.before.before.before.before.before.before.before.before.before.before.before.Node-at.ensures) c.before.before.before.before.before.before.before.before.before.before.before.before.before.before.if1.false c.before.before.before.before.before.before.before.before.before.before.before.before.before.before.before.before.before.before.before.before.requires.1.0.fits c.before.before.before.before.before.before.before.before.before.before.before.before.empty.ensures c.before.before.before.before.before.before.before.before.ir-condition.ensures (sym c.before.before.before.told.ensures ∙ c.before.r.given.1)), never_on)
+ir_turn_returns_4 t c = (out_of _ _ (turn_out _ (ap (λ (x : Node). x.a) c.before.before.before.before.before.before.before.before.before.before.before.before.before.before.before.before.node_at.ensures) c.before.before.before.before.before.before.before.before.before.before.before.before.before.before.if1.false c.before.before.before.before.before.before.before.before.before.before.before.before.before.before.before.before.before.before.before.before.requires.1.0.fits c.before.before.before.before.before.before.before.before.before.before.before.before.empty.ensures c.before.before.before.before.before.before.before.before.ir-condition.ensures (sym c.before.before.before.told.ensures ∙ c.before.r.given.1)), never_on)

@@ -33,86 +33,86 @@ ir_work_node_at_requires t c κs = (c.before.before.before.requires.1.0.first, c
 
 -- src/eval.rt:75:14
 pub ir_work_ir_scope_requires : (t : ℕ) → ir-work-lts.Need-ir-scope-requires (ir_work_claims t) (ir_work_at t) ir-work.Post
-ir_work_ir_scope_requires t c κs = (omega (arith, c.before.before.before.before.before.before.before.before.requires.0), (c.before.before.before.before.before.before.before.before.requires.1.0, c.before.before.before.before.before.before.before.before.requires.1.1, ap (λ (x : Node). x.kind) (sym c.before.before.before.before.Node-at.ensures) ∙ c.before.before.before.match.keys1))
+ir_work_ir_scope_requires t c κs = (omega (arith, c.before.before.before.before.before.before.before.before.requires.0), (c.before.before.before.before.before.before.before.before.requires.1.0, c.before.before.before.before.before.before.before.before.requires.1.1, ap (λ (x : Node). x.kind) (sym c.before.before.before.before.node_at.ensures) ∙ c.before.before.before.match.keys1))
 
 -- src/eval.rt:76:14
 pub ir_work_ir_binary_requires : (t : ℕ) → ir-work-lts.Need-ir-binary-requires (ir_work_claims t) (ir_work_at t) ir-work.Post
-ir_work_ir_binary_requires t c κs = (omega (arith, c.before.before.before.before.before.before.before.before.requires.0), (c.before.before.before.before.before.before.before.before.requires.1.0, c.before.before.before.before.before.before.before.before.requires.1.1, ap (λ (x : Node). x.kind) (sym c.before.before.before.before.Node-at.ensures) ∙ c.before.before.before.match.keys2))
+ir_work_ir_binary_requires t c κs = (omega (arith, c.before.before.before.before.before.before.before.before.requires.0), (c.before.before.before.before.before.before.before.before.requires.1.0, c.before.before.before.before.before.before.before.before.requires.1.1, ap (λ (x : Node). x.kind) (sym c.before.before.before.before.node_at.ensures) ∙ c.before.before.before.match.keys2))
 
 -- src/eval.rt:77:14
 pub ir_work_ir_operand_requires : (t : ℕ) → ir-work-lts.Need-ir-operand-requires (ir_work_claims t) (ir_work_at t) ir-work.Post
 ir_work_ir_operand_requires t c κs =
-    let k = ap (λ (x : Node). x.kind) (sym c.before.before.before.before.Node-at.ensures) ∙ c.before.before.before.match.keys3 in
+    let k = ap (λ (x : Node). x.kind) (sym c.before.before.before.before.node_at.ensures) ∙ c.before.before.before.match.keys3 in
     (omega (arith, c.before.before.before.before.before.before.before.before.requires.0), (c.before.before.before.before.before.before.before.before.requires.1.0, c.before.before.before.before.before.before.before.before.requires.1.1, subst Single (sym k) declares, operand_some c.before.before.before.before.before.before.before.before.requires.1.0 k declares (λ (e : 3 ≡ 12). absurd (omega (arith, e)))))
 
 -- src/eval.rt:78:14
 pub ir_work_ir_operand_requires_2 : (t : ℕ) → ir-work-lts.Need-ir-operand-requires-2 (ir_work_claims t) (ir_work_at t) ir-work.Post
 ir_work_ir_operand_requires_2 t c κs =
-    let k = ap (λ (x : Node). x.kind) (sym c.before.before.before.before.Node-at.ensures) ∙ c.before.before.before.match.keys4 in
+    let k = ap (λ (x : Node). x.kind) (sym c.before.before.before.before.node_at.ensures) ∙ c.before.before.before.match.keys4 in
     (omega (arith, c.before.before.before.before.before.before.before.before.requires.0), (c.before.before.before.before.before.before.before.before.requires.1.0, c.before.before.before.before.before.before.before.before.requires.1.1, subst Single (sym k) sets, operand_some c.before.before.before.before.before.before.before.before.requires.1.0 k sets (λ (e : 4 ≡ 12). absurd (omega (arith, e)))))
 
 -- src/eval.rt:79:14
 pub ir_work_ir_operand_requires_3 : (t : ℕ) → ir-work-lts.Need-ir-operand-requires-3 (ir_work_claims t) (ir_work_at t) ir-work.Post
 ir_work_ir_operand_requires_3 t c κs =
-    let k = ap (λ (x : Node). x.kind) (sym c.before.before.before.before.Node-at.ensures) ∙ c.before.before.before.match.keys5 in
+    let k = ap (λ (x : Node). x.kind) (sym c.before.before.before.before.node_at.ensures) ∙ c.before.before.before.match.keys5 in
     (omega (arith, c.before.before.before.before.before.before.before.before.requires.0), (c.before.before.before.before.before.before.before.before.requires.1.0, c.before.before.before.before.before.before.before.before.requires.1.1, subst Single (sym k) assigns, operand_some c.before.before.before.before.before.before.before.before.requires.1.0 k assigns (λ (e : 5 ≡ 12). absurd (omega (arith, e)))))
 
 -- src/eval.rt:80:14
 pub ir_work_ir_build_requires : (t : ℕ) → ir-work-lts.Need-ir-build-requires (ir_work_claims t) (ir_work_at t) ir-work.Post
-ir_work_ir_build_requires t c κs = (omega (arith, c.before.before.before.before.before.before.before.before.requires.0), (c.before.before.before.before.before.before.before.before.requires.1.0, c.before.before.before.before.before.before.before.before.requires.1.1, subst Builds (sym (ap (λ (x : Node). x.kind) (sym c.before.before.before.before.Node-at.ensures) ∙ c.before.before.before.match.keys6)) templates))
+ir_work_ir_build_requires t c κs = (omega (arith, c.before.before.before.before.before.before.before.before.requires.0), (c.before.before.before.before.before.before.before.before.requires.1.0, c.before.before.before.before.before.before.before.before.requires.1.1, subst Builds (sym (ap (λ (x : Node). x.kind) (sym c.before.before.before.before.node_at.ensures) ∙ c.before.before.before.match.keys6)) templates))
 
 -- src/eval.rt:81:14
 pub ir_work_eval_name_requires : (t : ℕ) → ir-work-lts.Need-eval-name-requires (ir_work_claims t) (ir_work_at t) ir-work.Post
-ir_work_eval_name_requires t c κs = (is_kind c.before.before.before.before.before.before.before.requires.1.0 7 (ap (λ (x : Node). x.kind) (sym c.before.before.before.Node-at.ensures) ∙ c.before.before.match.keys7), c.before.before.before.before.before.before.before.requires.1.0.fits)
+ir_work_eval_name_requires t c κs = (is_kind c.before.before.before.before.before.before.before.requires.1.0 7 (ap (λ (x : Node). x.kind) (sym c.before.before.before.node_at.ensures) ∙ c.before.before.match.keys7), c.before.before.before.before.before.before.before.requires.1.0.fits)
 
 -- src/eval.rt:82:14
 pub ir_work_eval_read_requires : (t : ℕ) → ir-work-lts.Need-eval-read-requires (ir_work_claims t) (ir_work_at t) ir-work.Post
-ir_work_eval_read_requires t c κs = (is_kind c.before.before.before.before.before.before.before.requires.1.0 8 (ap (λ (x : Node). x.kind) (sym c.before.before.before.Node-at.ensures) ∙ c.before.before.match.keys8), c.before.before.before.before.before.before.before.requires.1.0.fits)
+ir_work_eval_read_requires t c κs = (is_kind c.before.before.before.before.before.before.before.requires.1.0 8 (ap (λ (x : Node). x.kind) (sym c.before.before.before.node_at.ensures) ∙ c.before.before.match.keys8), c.before.before.before.before.before.before.before.requires.1.0.fits)
 
 -- src/eval.rt:83:14
 pub ir_work_eval_value_requires : (t : ℕ) → ir-work-lts.Need-eval-value-requires (ir_work_claims t) (ir_work_at t) ir-work.Post
-ir_work_eval_value_requires t c κs = (is_kind c.before.before.before.before.before.before.before.requires.1.0 9 (ap (λ (x : Node). x.kind) (sym c.before.before.before.Node-at.ensures) ∙ c.before.before.match.keys9), c.before.before.before.before.before.before.before.requires.1.0.fits)
+ir_work_eval_value_requires t c κs = (is_kind c.before.before.before.before.before.before.before.requires.1.0 9 (ap (λ (x : Node). x.kind) (sym c.before.before.before.node_at.ensures) ∙ c.before.before.match.keys9), c.before.before.before.before.before.before.before.requires.1.0.fits)
 
 -- src/eval.rt:84:15
 pub ir_work_ir_branches_requires : (t : ℕ) → ir-work-lts.Need-ir-branches-requires (ir_work_claims t) (ir_work_at t) ir-work.Post
-ir_work_ir_branches_requires t c κs = (omega (arith, c.before.before.before.before.before.before.before.before.requires.0), (c.before.before.before.before.before.before.before.before.requires.1.0, c.before.before.before.before.before.before.before.before.requires.1.1, ap (λ (x : Node). x.kind) (sym c.before.before.before.before.Node-at.ensures) ∙ c.before.before.before.match.keys10))
+ir_work_ir_branches_requires t c κs = (omega (arith, c.before.before.before.before.before.before.before.before.requires.0), (c.before.before.before.before.before.before.before.before.requires.1.0, c.before.before.before.before.before.before.before.before.requires.1.1, ap (λ (x : Node). x.kind) (sym c.before.before.before.before.node_at.ensures) ∙ c.before.before.before.match.keys10))
 
 -- src/eval.rt:85:15
 pub ir_work_ir_loop_requires : (t : ℕ) → ir-work-lts.Need-ir-loop-requires (ir_work_claims t) (ir_work_at t) ir-work.Post
-ir_work_ir_loop_requires t c κs = (omega (arith, c.before.before.before.before.before.before.before.before.requires.0), (c.before.before.before.before.before.before.before.before.requires.1.0, c.before.before.before.before.before.before.before.before.requires.1.1, ap (λ (x : Node). x.kind) (sym c.before.before.before.before.Node-at.ensures) ∙ c.before.before.before.match.keys11))
+ir_work_ir_loop_requires t c κs = (omega (arith, c.before.before.before.before.before.before.before.before.requires.0), (c.before.before.before.before.before.before.before.before.requires.1.0, c.before.before.before.before.before.before.before.before.requires.1.1, ap (λ (x : Node). x.kind) (sym c.before.before.before.before.node_at.ensures) ∙ c.before.before.before.match.keys11))
 
 -- src/eval.rt:88:17
 pub ir_work_returns : (t : ℕ) → ir-work-lts.Need-returns (ir_work_claims t) (ir_work_at t) ir-work.Post
-ir_work_returns t c = break_post c.before.before.before.before.before.before.before.requires.1.0 (ap (λ (x : Node). x.kind) (sym c.before.before.before.Node-at.ensures) ∙ c.before.before.match.keys12) (ap (λ (x : Node). x.a) (sym c.before.before.before.Node-at.ensures) ∙ c.if1.true)
+ir_work_returns t c = break_post c.before.before.before.before.before.before.before.requires.1.0 (ap (λ (x : Node). x.kind) (sym c.before.before.before.node_at.ensures) ∙ c.before.before.match.keys12) (ap (λ (x : Node). x.a) (sym c.before.before.before.node_at.ensures) ∙ c.if1.true)
 
 -- src/eval.rt:90:13
 pub ir_work_ir_operand_requires_4 : (t : ℕ) → ir-work-lts.Need-ir-operand-requires-4 (ir_work_claims t) (ir_work_at t) ir-work.Post
 ir_work_ir_operand_requires_4 t c κs =
-    let k = ap (λ (x : Node). x.kind) (sym c.before.before.before.before.before.before.Node-at.ensures) ∙ c.before.before.before.before.before.match.keys12 in (
+    let k = ap (λ (x : Node). x.kind) (sym c.before.before.before.before.before.before.node_at.ensures) ∙ c.before.before.before.before.before.match.keys12 in (
       omega (arith, c.before.before.before.before.before.before.before.before.before.before.requires.0),
       (
         c.before.before.before.before.before.before.before.before.before.before.requires.1.0,
         c.before.before.before.before.before.before.before.before.before.before.requires.1.1,
         subst Single (sym k) breaks,
-        operand_some c.before.before.before.before.before.before.before.before.before.before.requires.1.0 k breaks (λ _ z. c.before.before.before.if1.false (ap (λ (x : Node). x.a) c.before.before.before.before.before.before.Node-at.ensures ∙ z)),
+        operand_some c.before.before.before.before.before.before.before.before.before.before.requires.1.0 k breaks (λ _ z. c.before.before.before.if1.false (ap (λ (x : Node). x.a) c.before.before.before.before.before.before.node_at.ensures ∙ z)),
       ),
     )
 
 -- src/eval.rt:92:15
 pub ir_work_ir_build_requires_2 : (t : ℕ) → ir-work-lts.Need-ir-build-requires-2 (ir_work_claims t) (ir_work_at t) ir-work.Post
-ir_work_ir_build_requires_2 t c κs = (omega (arith, c.before.before.before.before.before.before.before.before.requires.0), (c.before.before.before.before.before.before.before.before.requires.1.0, c.before.before.before.before.before.before.before.before.requires.1.1, subst Builds (sym (ap (λ (x : Node). x.kind) (sym c.before.before.before.before.Node-at.ensures) ∙ c.before.before.before.match.keys13)) vecs))
+ir_work_ir_build_requires_2 t c κs = (omega (arith, c.before.before.before.before.before.before.before.before.requires.0), (c.before.before.before.before.before.before.before.before.requires.1.0, c.before.before.before.before.before.before.before.before.requires.1.1, subst Builds (sym (ap (λ (x : Node). x.kind) (sym c.before.before.before.before.node_at.ensures) ∙ c.before.before.before.match.keys13)) vecs))
 
 -- src/eval.rt:93:15
 pub ir_work_ir_build_requires_3 : (t : ℕ) → ir-work-lts.Need-ir-build-requires-3 (ir_work_claims t) (ir_work_at t) ir-work.Post
-ir_work_ir_build_requires_3 t c κs = (omega (arith, c.before.before.before.before.before.before.before.before.requires.0), (c.before.before.before.before.before.before.before.before.requires.1.0, c.before.before.before.before.before.before.before.before.requires.1.1, subst Builds (sym (ap (λ (x : Node). x.kind) (sym c.before.before.before.before.Node-at.ensures) ∙ c.before.before.before.match.keys14)) tuples))
+ir_work_ir_build_requires_3 t c κs = (omega (arith, c.before.before.before.before.before.before.before.before.requires.0), (c.before.before.before.before.before.before.before.before.requires.1.0, c.before.before.before.before.before.before.before.before.requires.1.1, subst Builds (sym (ap (λ (x : Node). x.kind) (sym c.before.before.before.before.node_at.ensures) ∙ c.before.before.before.match.keys14)) tuples))
 
 -- src/eval.rt:94:15
 pub ir_work_ir_build_requires_4 : (t : ℕ) → ir-work-lts.Need-ir-build-requires-4 (ir_work_claims t) (ir_work_at t) ir-work.Post
-ir_work_ir_build_requires_4 t c κs = (omega (arith, c.before.before.before.before.before.before.before.before.requires.0), (c.before.before.before.before.before.before.before.before.requires.1.0, c.before.before.before.before.before.before.before.before.requires.1.1, subst Builds (sym (ap (λ (x : Node). x.kind) (sym c.before.before.before.before.Node-at.ensures) ∙ c.before.before.before.match.keys15)) objects))
+ir_work_ir_build_requires_4 t c κs = (omega (arith, c.before.before.before.before.before.before.before.before.requires.0), (c.before.before.before.before.before.before.before.before.requires.1.0, c.before.before.before.before.before.before.before.before.requires.1.1, subst Builds (sym (ap (λ (x : Node). x.kind) (sym c.before.before.before.before.node_at.ensures) ∙ c.before.before.before.match.keys15)) objects))
 
 -- src/eval.rt:95:15
 pub ir_work_ir_call_requires : (t : ℕ) → ir-work-lts.Need-ir-call-requires (ir_work_claims t) (ir_work_at t) ir-work.Post
-ir_work_ir_call_requires t c κs = (omega (arith, c.before.before.before.before.before.before.before.before.requires.0), (c.before.before.before.before.before.before.before.before.requires.1.0, c.before.before.before.before.before.before.before.before.requires.1.1, ap (λ (x : Node). x.kind) (sym c.before.before.before.before.Node-at.ensures) ∙ c.before.before.before.match.keys16))
+ir_work_ir_call_requires t c κs = (omega (arith, c.before.before.before.before.before.before.before.before.requires.0), (c.before.before.before.before.before.before.before.before.requires.1.0, c.before.before.before.before.before.before.before.before.requires.1.1, ap (λ (x : Node). x.kind) (sym c.before.before.before.before.node_at.ensures) ∙ c.before.before.before.match.keys16))
 
 -- src/eval.rt:68:1
 pub ir_work_same_length : (t : ℕ) → ir-work-lts.Need-same-length (ir_work_claims t) (ir_work_at t) ir-work.Post
@@ -298,5 +298,5 @@ ir_work_returns_17 t c = c.before.before.before.before.ir-call.ensures
 pub ir_work_returns_18 : (t : ℕ) → ir-work-lts.Need-returns-18 (ir_work_claims t) (ir_work_at t) ir-work.Post
 ir_work_returns_18 t c =
     let x = c.match.rest in
-    let e = ap (λ (y : Node). y.kind) (sym c.before.Node-at.ensures) in
+    let e = ap (λ (y : Node). y.kind) (sym c.before.node_at.ensures) in
     not_const_post c.before.before.before.before.before.requires.1.0.fits (subst (λ (y : ℕ). 0 < y → y ≤ 16 → ⊥) (sym e) (none_of_16 _ x.0.0.0.0.0.0.0.0.0.0.0.0.0.0.0.1 x.0.0.0.0.0.0.0.0.0.0.0.0.0.0.1 x.0.0.0.0.0.0.0.0.0.0.0.0.0.1 x.0.0.0.0.0.0.0.0.0.0.0.0.1 x.0.0.0.0.0.0.0.0.0.0.0.1 x.0.0.0.0.0.0.0.0.0.0.1 x.0.0.0.0.0.0.0.0.0.1 x.0.0.0.0.0.0.0.0.1 x.0.0.0.0.0.0.0.1 x.0.0.0.0.0.0.1 x.0.0.0.0.0.1 x.0.0.0.0.1 x.0.0.0.1 x.0.0.1 x.0.1 x.1))

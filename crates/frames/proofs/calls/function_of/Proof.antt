@@ -13,10 +13,10 @@ cast-function-at c = search rules
 function-at-requires : tie.Need-function-at-requires
 function-at-requires c κs =
     let is = c.before.before.before.requires in
-    (rw c.before.Node-at.ensures (call_names is), (node_there (as_node is)).2)
+    (rw c.before.node_at.ensures (call_names is), (node_there (as_node is)).2)
 
 returns : tie.Need-returns
-returns c = rw c.before.before.Node-at.ensures at c.function-at.ensures
+returns c = rw c.before.before.node_at.ensures at c.function-at.ensures
 
 pub function_of_spec : {M : Type 1} → statement M
 function_of_spec =

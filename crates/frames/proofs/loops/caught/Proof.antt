@@ -17,15 +17,15 @@ node-at-requires-2 c κs = node_there c.before.before.requires.1
 returns : tie.Need-returns
 returns c =
     let start = c.before.before.before.before.before.before in
-    goes_on start.args.v start.args.scope start.args.from _ _ c.before.before.before.before.Node-at.ensures
+    goes_on start.args.v start.args.scope start.args.from _ _ c.before.before.before.before.node_at.ensures
     c.before.before.before.node-at2.ensures start.requires.1 c.if1.true
 
 returns-2 : tie.Need-returns-2
 returns-2 c =
     let before = c.before.before.before.before in
     let start = before.before.before.before.before.before.before in
-    let outer = before.before.before.before.before.Node-at.result in
-    refused_value start.args.v start.args.scope start.args.from _ _ before.before.before.before.before.Node-at.ensures
+    let outer = before.before.before.before.before.node_at.result in
+    refused_value start.args.v start.args.scope start.args.from _ _ before.before.before.before.before.node_at.ensures
     before.before.before.before.node-at2.ensures before.if1.false c.before.before.if2.true
     (eqb-false outer.a 0 (not-true (eqb outer.a 0) c.if3.true))
 
@@ -36,8 +36,8 @@ returns-3 : tie.Need-returns-3
 returns-3 c =
     let before = c.before.before.before.before in
     let start = before.before.before.before.before.before.before in
-    let outer = before.before.before.before.before.Node-at.result in
-    loop_ended start.args.v start.args.scope start.args.from _ _ before.before.before.before.before.Node-at.ensures
+    let outer = before.before.before.before.before.node_at.result in
+    loop_ended start.args.v start.args.scope start.args.from _ _ before.before.before.before.before.node_at.ensures
     before.before.before.before.node-at2.ensures before.if1.false
     (⊎_elim (λ x. inr (eqb-true outer.a 0 (not-false (eqb outer.a 0) x.2.left))) (λ x. inl x.left) c.before.before.if2.branch)
     c.break-out.ensures
