@@ -65,9 +65,17 @@ class Names:
             place = p.base
 
     def depth(self, place, to):
-        for i, p in enumerate(self.up(place)):
+        """How many times 'before' leads from a place to another: an arm is one step."""
+        i, skipped = 0, 0
+        for p in self.up(place):
             if norm(p.old) == norm(to):
                 return i
+            if skipped:
+                skipped -= 1
+            elif p.arm:
+                skipped, i = p.arm[1] - 1, i + 1
+            else:
+                i += 1
         return None
 
     def fields_of(self, parts, place):
@@ -160,6 +168,9 @@ class Names:
                 own[m.group(1)] = to[5:] if to.startswith("Need-") else to
         for m in re.finditer(r"(?m)^(\S+) : (?:\{.*?\} → )?\((\w+) : tie\.([^\s()]+)[^()]*\)", text):
             self.helpers[m.group(1)] = m.group(3)
+        for m in re.finditer(r"(?m)^module _ \((\w+) : tie\.([^\s()]+)[^()]*\) where\n((?:  .*\n|\n)*)", text):
+            for n in re.finditer(r"(?m)^  (?:abbrev |unfoldable )*([\w-]+) :", m.group(3)):
+                self.helpers[n.group(1)] = m.group(2)
         text = "\n\n".join(self.block(b) for b in text.split("\n\n"))
         def tie(m):
             to = self.label(m.group(1))

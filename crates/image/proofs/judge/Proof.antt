@@ -26,81 +26,81 @@ module _ (s : tie.Start) where
   by_tree_lem = by_tree s.args.h (lowest_fault s.args.image.now s.args.h)
 
 -- past the second test, the third and the records decide
-sized : (c : tie.Else2) → let s = c.before.before.before.before.before in asked s ≡ cond (not (is_node s.args.h.nodes s.args.h.root)) BadHeader (by_records_lem s)
+sized : (c : tie.Else-image-size_of) → asked c.before.before.before.before.before ≡ cond (not (is_node c.args.h.nodes c.args.h.root)) BadHeader (by_records_lem c.before.before.before.before.before)
 unfolding judged
-sized c = rw (eq-eqb _ _ c.before.before.if1.false, eq-eqb _ _ (c.if2.false ∙ c.before.size_of.ensures))
+sized c = rw (eq-eqb _ _ c.if-h-ne1.false, eq-eqb _ _ (c.if-image-size_of.false ∙ c.size_of.ensures))
 
 -- past the third, the records
-rooted : (c : tie.Else3) → let s = c.before.before.before.before.before.before.before in asked s ≡ by_records_lem s
-rooted c = sized c.before.before ∙ rw (sym c.before.is_node_lem.ensures ∙ not-false _ c.if3.false)
+rooted : (c : tie.Else-not-is_node) → asked c.before.before.before.before.before.before.before ≡ by_records_lem c.before.before.before.before.before.before.before
+rooted c = sized c.before.before ∙ rw (sym c.is_node.ensures ∙ not-false _ c.if-not-is_node.false-raw)
 
 -- where none is bad, the tree
-recorded : (c : tie.After-enum-told) → let s = c.before.before.before.before.before.before.before.before.before.before in asked s ≡ by_tree_lem s
-recorded c = rooted c.before.before.before ∙ rw (sym c.before.before.bad-record.ensures ∙ c.enum_told.given.1)
+recorded : (c : tie.In-Nowhere) → asked c.before.before.before.before.before.before.before.before.before ≡ by_tree_lem c.before.before.before.before.before.before.before.before.before
+recorded c = rooted c.before.before ∙ rw (sym c.bad_record.ensures ∙ c.in-Nowhere.is)
 
-returns : tie.Need-returns
+returns-then-h-ne1 : tie.Need-returns-then-h-ne1
 unfolding judged
-returns c = rw (ne_eqb _ _ c.if1.true)
+returns-then-h-ne1 c = rw (ne_eqb _ _ c.if-h-ne1.true)
 
-size-of-requires : tie.Need-size-of-requires
-size-of-requires c κs = search rules
+size_of-requires : tie.Need-size_of-requires
+size_of-requires c κs = search rules
 
-returns-2 : tie.Need-returns-2
+returns-then-image-size_of : tie.Need-returns-then-image-size_of
 unfolding judged
-returns-2 c = rw (eq-eqb _ _ c.before.before.if1.false, sym c.before.size_of.ensures, ne_eqb _ _ c.if2.true)
+returns-then-image-size_of c = rw (eq-eqb _ _ c.if-h-ne1.false, sym c.size_of.ensures, ne_eqb _ _ c.if-image-size_of.true)
 
-is-node-requires : tie.Need-is-node-requires
-is-node-requires c κs = search rules
+is_node-requires : tie.Need-is_node-requires
+is_node-requires c κs = search rules
 
-returns-3 : tie.Need-returns-3
-returns-3 c = rw (sized c.before.before, sym c.before.is_node_lem.ensures ∙ not-true _ c.if3.true)
+returns-then-not-is_node : tie.Need-returns-then-not-is_node
+returns-then-not-is_node c = rw (sized c.before.before, sym c.is_node.ensures ∙ not-true _ c.if-not-is_node.true-raw)
 
-bad-record-requires : tie.Need-bad-record-requires
-bad-record-requires c κs = search rules
+bad_record-requires : tie.Need-bad_record-requires
+bad_record-requires c κs = search rules
 
-enum-known-place : tie.Need-enum-known-place
-enum-known-place c = search rules
+enum_known-place : tie.Need-enum_known-place
+enum_known-place c = search rules
 
-enum_told : tie.Need-enum-told
-enum_told c = search rules
+enum_told-1 : tie.Need-enum_told-1
+enum_told-1 c = search rules
 
-lowest-fault-requires : tie.Need-lowest-fault-requires
-lowest-fault-requires c κs =
-    let a = c.before.before.before.before.before.before.before.before.before.before.args in
-    let b = header_below a.image.now a.h c.before.before.before.before.before.before.before.before.before.before.requires in
-    let none = sym c.before.before.bad-record.ensures ∙ c.enum_told.given.1 in
-    (b.1, le_of_eq (sym c.before.before.before.before.before.before.size_of.ensures ∙ sym c.before.before.before.before.before.if2.false), record { few = b.0; good = node_good_lem a.image.now a.h none })
+lowest_fault-requires : tie.Need-lowest_fault-requires
+lowest_fault-requires c κs =
+    let a = c.args in
+    let b = header_below a.image.now a.h c.requires in
+    let none = sym c.bad_record.ensures ∙ c.in-Nowhere.is in
+    (b.1, le_of_eq (sym c.size_of.ensures ∙ sym c.if-image-size_of.false), record { few = b.0; good = node_good_lem a.image.now a.h none })
 
-enum-known-n : tie.Need-enum-known-n
-enum-known-n c = search rules
+enum_known-n : tie.Need-enum_known-n
+enum_known-n c = search rules
 
-enum-told-2 : tie.Need-enum-told-2
-enum-told-2 c = search rules
+enum_told-in-Nowhere-lowest_fault : tie.Need-enum_told-in-Nowhere-lowest_fault
+enum_told-in-Nowhere-lowest_fault c = search rules
 
-returns-4 : tie.Need-returns-4
-returns-4 c = rw (rooted c.before.before.before.before, sym c.before.before.before.bad-record.ensures ∙ c.before.place.given.1)
+returns-in-At : tie.Need-returns-in-At
+returns-in-At c = rw (rooted c.before.before, sym c.bad_record.ensures ∙ c.in-At.is)
 
-returns-5 : tie.Need-returns-5
-returns-5 c = rw (recorded c.before.before.before.before, sym c.before.before.before.lowest-fault.ensures ∙ c.before.n.given.1)
+returns-in-At-lowest_fault : tie.Need-returns-in-At-lowest_fault
+returns-in-At-lowest_fault c = rw (recorded c.before.before, sym c.lowest_fault.ensures ∙ c.in-At-lowest_fault.is)
 
-returns-6 : tie.Need-returns-6
-returns-6 c = rw (recorded c.before.before.before, sym c.before.before.lowest-fault.ensures ∙ c.enum-told2.given.1)
+returns-in-Nowhere-lowest_fault : tie.Need-returns-in-Nowhere-lowest_fault
+returns-in-Nowhere-lowest_fault c = rw (recorded c.before.before, sym c.lowest_fault.ensures ∙ c.in-Nowhere-lowest_fault.is)
 
 pub judge_spec : {M : Type 1} → statement M
 judge_spec =
     tie.close
     (tie.spec
-    returns
-    size-of-requires
-    returns-2
-    is-node-requires
-    returns-3
-    bad-record-requires
-    enum-known-place
-    enum_told
-    lowest-fault-requires
-    enum-known-n
-    enum-told-2
-    returns-4
-    returns-5
-    returns-6)
+    returns-then-h-ne1
+    size_of-requires
+    returns-then-image-size_of
+    is_node-requires
+    returns-then-not-is_node
+    bad_record-requires
+    enum_known-place
+    enum_told-1
+    lowest_fault-requires
+    enum_known-n
+    enum_told-in-Nowhere-lowest_fault
+    returns-in-At
+    returns-in-At-lowest_fault
+    returns-in-Nowhere-lowest_fault)

@@ -6,19 +6,19 @@ use borrow.Author.Rules.{rules}
 use Rattle.image.proofs.load.Statement.{statement}
 use Rattle.image.proofs.load.Tie as tie
 
-returns : tie.Need-returns
+returns-then-image-lt8 : tie.Need-returns-then-image-lt8
 unfolding load_of
-returns c = rw (lt-ltb _ _ c.if1.true)
+returns-then-image-lt8 c = rw (lt-ltb _ _ c.if-image-lt8.true)
 
-header-of-requires : tie.Need-header-of-requires
-header-of-requires c κs = search rules
+header_of-requires : tie.Need-header_of-requires
+header_of-requires c κs = search rules
 
 judge-requires : tie.Need-judge-requires
 judge-requires c κs = search rules
 
-returns-2 : tie.Need-returns-2
+returns : tie.Need-returns
 unfolding load_of
-returns-2 c = rw (le-ltb _ _ c.before.before.if1.false, sym c.before.header_of.ensures) c.judge.ensures
+returns c = rw (le-ltb _ _ c.if-image-lt8.false, sym c.header_of.ensures) c.judge.ensures
 
 pub load_spec : {M : Type 1} → statement M
-load_spec = tie.close (tie.spec returns header-of-requires judge-requires returns-2)
+load_spec = tie.close (tie.spec returns-then-image-lt8 header_of-requires judge-requires returns)

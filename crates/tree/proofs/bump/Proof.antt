@@ -12,44 +12,44 @@ use borrow.Author.Rules.{rules}
 use Rattle.tree.proofs.bump.Statement.{statement}
 use Rattle.tree.proofs.bump.Tie as tie
 
-element-copy-out-byte : tie.Need-element-copy-out-byte
-element-copy-out-byte c = search rules
+bounds-counts-n : tie.Need-bounds-counts-n
+bounds-counts-n c = search rules
 
-byte-requires : tie.Need-byte-requires
-byte-requires c κs = search rules
+byte-old-requires : tie.Need-byte-old-requires
+byte-old-requires c κs = search rules
 
-add-counts : tie.Need-overflow-add-counts
-add-counts c = search rules
+overflow_add-counts : tie.Need-overflow_add-counts
+overflow_add-counts c = search rules
 
-element-write-counts : tie.Need-element-write-counts
-element-write-counts c = search rules
+bounds-counts-n-then-old-lt255 : tie.Need-bounds-counts-n-then-old-lt255
+bounds-counts-n-then-old-lt255 c = search rules
 
-returns : tie.Need-returns
+returns-then-old-lt255 : tie.Need-returns-then-old-lt255
 unfolding grown
-returns c =
-    let a = c.before.before.before.args in
+returns-then-old-lt255 c =
+    let a = c.args in
     let l = a.counts.now in
-    let old = c.before.byte.ensures.0 in
+    let old = c.byte-old.ensures.0 in
     let here : a.node < length l = omega arith in
-    added_one l a.node _ here (rw (sym old, lt-ltb _ _ c.if1.true))
+    added_one l a.node _ here (rw (sym old, lt-ltb _ _ c.if-old-lt255.true))
 
-returns-2 : tie.Need-returns-2
+returns-else-old-lt255 : tie.Need-returns-else-old-lt255
 unfolding grown
-returns-2 c =
-    let a = c.before.before.before.args in
+returns-else-old-lt255 c =
+    let a = c.args in
     let l = a.counts.now in
-    let old = c.before.byte.ensures.0 in
+    let old = c.byte-old.ensures.0 in
     let here : a.node < length l = omega arith in
     subst (λ (m : List ℕ). Added l m (a.node ∷ [])) (set-get_or l a.node 0)
-    (added_one l a.node (get_or l a.node 0) here (rw (sym old, le-ltb _ _ c.if1.false)))
+    (added_one l a.node (get_or l a.node 0) here (rw (sym old, le-ltb _ _ c.if-old-lt255.false)))
 
 pub bump_spec : {M : Type 1} → statement M
 bump_spec =
     tie.close
     (tie.spec
-    element-copy-out-byte
-    byte-requires
-    add-counts
-    element-write-counts
-    returns
-    returns-2)
+    bounds-counts-n
+    byte-old-requires
+    overflow_add-counts
+    bounds-counts-n-then-old-lt255
+    returns-then-old-lt255
+    returns-else-old-lt255)

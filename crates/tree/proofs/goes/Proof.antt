@@ -28,54 +28,54 @@ names_none image h n x Text k = refl
 names_none image h n x Function k = refl
 names_none image h n x (NodeRole needed heads class) k = absurd (miss (1 ∷ 2 ∷ 3 ∷ 4 ∷ []) 5 tt k)
 
-enum_told : tie.Need-enum-told
-enum_told c = search rules
+enum_told-1 : tie.Need-enum_told-1
+enum_told-1 c = search rules
 
-enum-known-role : tie.Need-enum-known-role
-enum-known-role c = search rules
+enum_known-role : tie.Need-enum_known-role
+enum_known-role c = search rules
 
-returns : tie.Need-returns
+returns-then-x-eq0 : tie.Need-returns-then-x-eq0
 unfolding goes
-returns c = rw (c.before.before.role.given.1, c.if1.true)
+returns-then-x-eq0 c = rw (c.in-Node.is, c.if-x-eq0.true)
 
-returns-2 : tie.Need-returns-2
+returns-then-x-n : tie.Need-returns-then-x-n
 unfolding goes
-returns-2 c = rw (c.before.before.before.role.given.1, ne_eqb _ _ c.before.if1.false, le-ltb _ _ c.if2.true)
+returns-then-x-n c = rw (c.in-Node.is, ne_eqb _ _ c.if-x-eq0.false, le-ltb _ _ c.if-x-n.true)
 
-node-at-requires : tie.Need-node-at-requires
-node-at-requires c κs =
-    let a = c.before.before.before.before.before.before.args in
-    let there : a.x ≤ a.h.nodes = rw c.before.before.before.role.given.1 at c.before.before.before.before.before.before.requires.0 in
-    (omega arith, there, c.before.before.before.before.before.before.requires.1)
+node_at-to-requires : tie.Need-node_at-to-requires
+node_at-to-requires c κs =
+    let a = c.args in
+    let there : a.x ≤ a.h.nodes = rw c.in-Node.is at c.requires.0 in
+    (omega arith, there, c.requires.1)
 
-is-of-requires : tie.Need-is-of-requires
-is-of-requires c κs = search rules
+is_of-requires : tie.Need-is_of-requires
+is_of-requires c κs = search rules
 
-returns-3 : tie.Need-returns-3
+returns-in-Unlisted : tie.Need-returns-in-Unlisted
 unfolding goes
-returns-3 c = rw c.enum_told.given.1
+returns-in-Unlisted c = rw c.in-Unlisted.is
 
-returns-4 : tie.Need-returns-4
+returns-else-x-n : tie.Need-returns-else-x-n
 unfolding goes
-returns-4 c =
-    rw (c.before.before.before.before.before.role.given.1, ne_eqb _ _ c.before.before.before.if1.false, lt-ltb _ _ c.before.before.if2.false)
-    (c.is-of.ensures ∙ ap (λ (d : Node). is_of c.before.before.before.before.before.role.given.0.1.1.0 d.kind) c.before.node_at.ensures)
+returns-else-x-n c =
+    rw (c.in-Node.is, ne_eqb _ _ c.if-x-eq0.false, lt-ltb _ _ c.if-x-n.false)
+    (c.is_of.ensures ∙ ap (λ (d : Node). is_of c.in-Node.class d.kind) c.node_at-to.ensures)
 
-returns-5 : tie.Need-returns-5
-returns-5 c =
-    let a = c.before.before.args in
-    names_none a.image.now a.h a.n a.x a.role c.match.keys3
+returns-in_default : tie.Need-returns-in_default
+returns-in_default c =
+    let a = c.args in
+    names_none a.image.now a.h a.n a.x a.role c.in_default.in_default-own.keys3
 
 pub goes_spec : {M : Type 1} → statement M
 goes_spec =
     tie.close
     (tie.spec
-    enum_told
-    enum-known-role
-    returns
-    returns-2
-    node-at-requires
-    is-of-requires
-    returns-3
-    returns-4
-    returns-5)
+    enum_told-1
+    enum_known-role
+    returns-then-x-eq0
+    returns-then-x-n
+    node_at-to-requires
+    is_of-requires
+    returns-in-Unlisted
+    returns-else-x-n
+    returns-in_default)

@@ -6,17 +6,17 @@ use borrow.Author.Rules.{rules}
 use Rattle.tree.proofs.heading.Statement.{statement}
 use Rattle.tree.proofs.heading.Tie as tie
 
-enum-known-role : tie.Need-enum-known-role
-enum-known-role c = search rules
+enum_known-role : tie.Need-enum_known-role
+enum_known-role c = search rules
 
-returns : tie.Need-returns
-returns c = rw (c.before.before.role.given.1, c.if1.true)
+returns-then-heads : tie.Need-returns-then-heads
+returns-then-heads c = rw (c.in-Node.is, c.if-heads.true)
 
-returns-2 : tie.Need-returns-2
-returns-2 c = search rules
+returns-else-heads : tie.Need-returns-else-heads
+returns-else-heads c = search rules
 
-returns-3 : tie.Need-returns-3
-returns-3 c = no_node (heading c.before.args.kind) 0 refl refl refl refl refl c.before.args.role c.match.keys2
+returns-in_default : tie.Need-returns-in_default
+returns-in_default c = no_node (heading c.args.kind) 0 refl refl refl refl refl c.args.role c.in_default.in_default-own.keys2
 
 pub heading_spec : {M : Type 1} → statement M
-heading_spec = tie.close (tie.spec enum-known-role returns returns-2 returns-3)
+heading_spec = tie.close (tie.spec enum_known-role returns-then-heads returns-else-heads returns-in_default)

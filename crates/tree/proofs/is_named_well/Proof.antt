@@ -6,24 +6,24 @@ use borrow.Author.Rules.{rules}
 use Rattle.tree.proofs.is_named_well.Statement.{statement}
 use Rattle.tree.proofs.is_named_well.Tie as tie
 
+returns-then-times-ne1 : tie.Need-returns-then-times-ne1
+unfolding is_named_well
+returns-then-times-ne1 c = rw (ne_eqb _ _ c.if-times-ne1.true)
+
+is_root_well-requires : tie.Need-is_root_well-requires
+is_root_well-requires c κs = search rules
+
+returns-then-not-is_root_well : tie.Need-returns-then-not-is_root_well
+unfolding is_named_well
+returns-then-not-is_root_well c = rw (eq-eqb _ _ c.if-times-ne1.false, sym c.is_root_well.ensures ∙ not-true _ c.if-not-is_root_well.true-raw)
+
+is_body_well-requires : tie.Need-is_body_well-requires
+is_body_well-requires c κs = search rules
+
 returns : tie.Need-returns
 unfolding is_named_well
-returns c = rw (ne_eqb _ _ c.if1.true)
-
-is-root-well-requires : tie.Need-is-root-well-requires
-is-root-well-requires c κs = search rules
-
-returns-2 : tie.Need-returns-2
-unfolding is_named_well
-returns-2 c = rw (eq-eqb _ _ c.before.before.if1.false, sym c.before.is-root-well.ensures ∙ not-true _ c.if2.true)
-
-is-body-well-requires : tie.Need-is-body-well-requires
-is-body-well-requires c κs = search rules
-
-returns-3 : tie.Need-returns-3
-unfolding is_named_well
-returns-3 c = rw (eq-eqb _ _ c.before.before.before.if1.false, sym c.before.before.is-root-well.ensures ∙ not-false _ c.before.if2.false) c.is-body-well.ensures
+returns c = rw (eq-eqb _ _ c.if-times-ne1.false, sym c.is_root_well.ensures ∙ not-false _ c.if-not-is_root_well.false-raw) c.is_body_well.ensures
 
 pub is_named_well_spec : {M : Type 1} → statement M
 is_named_well_spec =
-    tie.close (tie.spec returns is-root-well-requires returns-2 is-body-well-requires returns-3)
+    tie.close (tie.spec returns-then-times-ne1 is_root_well-requires returns-then-not-is_root_well is_body_well-requires returns)

@@ -9,24 +9,24 @@ use Rattle.tree.proofs.lowest_fault.Tie as tie
 bump-requires : tie.Need-bump-requires
 bump-requires c κs = search rules
 
-count-bodies-requires : tie.Need-count-bodies-requires
-count-bodies-requires c κs = search rules
+count_bodies-requires : tie.Need-count_bodies-requires
+count_bodies-requires c κs = search rules
 
 survey-requires : tie.Need-survey-requires
 survey-requires c κs =
-    let p = c.before.before.before.before.before.before.before.before.requires in
-    (p.2.few, p.1, c.before.before.count-bodies.ensures.0.long ∙ c.before.before.before.before.before.bump.ensures.long ∙ zeros.long, zeros)
+    let p = c.requires in
+    (p.2.few, p.1, c.count_bodies.ensures.0.long ∙ c.bump.ensures.long ∙ zeros.long, zeros)
 
-first-wrong-requires : tie.Need-first-wrong-requires
+first_wrong-requires : tie.Need-first_wrong-requires
 unfolding namings
-first-wrong-requires c κs =
-    let p = c.before.before.before.before.before.before.before.before.before.before.before.before.requires in
-    let counted = c.before.before.before.before.before.before.count-bodies.ensures in
-    let surveyed = c.before.before.before.survey.ensures in (
+first_wrong-requires c κs =
+    let p = c.requires in
+    let counted = c.count_bodies.ensures in
+    let surveyed = c.survey.ensures in (
       p.1,
       p.2,
       record {
-        named = from_zeros (added_then (added_then c.before.before.before.before.before.before.before.before.before.bump.ensures counted.0) surveyed.0);
+        named = from_zeros (added_then (added_then c.bump.ensures counted.0) surveyed.0);
         as_body = from_zeros counted.1;
         chained = surveyed.1;
       },
@@ -38,4 +38,4 @@ returns c = search rules
 pub lowest_fault_spec : {M : Type 1} → statement M
 lowest_fault_spec =
     tie.close
-    (tie.spec bump-requires count-bodies-requires survey-requires first-wrong-requires returns)
+    (tie.spec bump-requires count_bodies-requires survey-requires first_wrong-requires returns)

@@ -8,11 +8,11 @@ use borrow.Author.Rules.{rules}
 use Rattle.tree.proofs.mark_node.Statement.{statement}
 use Rattle.tree.proofs.mark_node.Tie as tie
 
-row-of-requires : tie.Need-row-of-requires
-row-of-requires c κs = search rules
+row_of-line-requires : tie.Need-row_of-line-requires
+row_of-line-requires c κs = search rules
 
-element-copy-out-own : tie.Need-element-copy-out-own
-element-copy-out-own c = search rules
+bounds-chains-n : tie.Need-bounds-chains-n
+bounds-chains-n c = search rules
 
 mark-requires : tie.Need-mark-requires
 mark-requires c κs = search rules
@@ -25,23 +25,23 @@ mark-requires-2 c κs = search rules
 
 returns : tie.Need-returns
 returns c =
-    let a = c.before.before.before.before.before.before.before.args in
+    let a = c.args in
     let d = a.d in
     let l = a.chains.now in
-    let head : c.before.heading.result ≡ heading d.kind (row_of d.kind).a = c.before.heading.ensures ∙ ap (λ (row : KindRow). heading d.kind row.a) c.before.before.before.before.before.before.row_of.ensures in
+    let head : c.heading.result ≡ heading d.kind (row_of d.kind).a = c.heading.ensures ∙ ap (λ (row : KindRow). heading d.kind row.a) c.row_of-line.ensures in
     record {
-      long = c.mark2.ensures.long;
+      long = c.mark-2.ensures.long;
       at = λ m h.
-          c.mark2.ensures.at m h
-          ∙ ap₂ (λ (k x : ℕ). marked a.n d.a k m x) head (c.before.before.before.mark.ensures.at m h);
+          c.mark-2.ensures.at m h
+          ∙ ap₂ (λ (k x : ℕ). marked a.n d.a k m x) head (c.mark.ensures.at m h);
     }
 
 pub mark_node_spec : {M : Type 1} → statement M
 mark_node_spec =
     tie.close
     (tie.spec
-    row-of-requires
-    element-copy-out-own
+    row_of-line-requires
+    bounds-chains-n
     mark-requires
     heading-requires
     mark-requires-2

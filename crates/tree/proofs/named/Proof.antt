@@ -7,14 +7,14 @@ use borrow.Author.Rules.{rules}
 use Rattle.tree.proofs.named.Statement.{statement}
 use Rattle.tree.proofs.named.Tie as tie
 
-enum_told : tie.Need-enum-told
-enum_told c = search rules
+enum_told-1 : tie.Need-enum_told-1
+enum_told-1 c = search rules
 
-returns : tie.Need-returns
-returns c = search rules
+returns-in-Node : tie.Need-returns-in-Node
+returns-in-Node c = search rules
 
-returns-2 : tie.Need-returns-2
-returns-2 c = no_node (λ (role : Role). named role c.before.args.x) 0 refl refl refl refl refl c.before.args.role c.match.keys2
+returns-in_default : tie.Need-returns-in_default
+returns-in_default c = no_node (λ (role : Role). named role c.args.x) 0 refl refl refl refl refl c.args.role c.in_default.in_default-own.keys2
 
 pub named_spec : {M : Type 1} → statement M
-named_spec = tie.close (tie.spec enum_told returns returns-2)
+named_spec = tie.close (tie.spec enum_told-1 returns-in-Node returns-in_default)

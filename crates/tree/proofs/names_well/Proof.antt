@@ -11,53 +11,53 @@ use borrow.Author.Rules.{rules}
 use Rattle.tree.proofs.names_well.Statement.{statement}
 use Rattle.tree.proofs.names_well.Tie as tie
 
-row-of-requires : tie.Need-row-of-requires
-row-of-requires c κs = search rules
+row_of-line-requires : tie.Need-row_of-line-requires
+row_of-line-requires c κs = search rules
 
 goes-requires : tie.Need-goes-requires
 goes-requires c κs =
-    let a = c.before.before.args in
-    let good = good_node a.image.now a.h a.d c.before.before.requires.1 in
+    let a = c.args in
+    let good = good_node a.image.now a.h a.d c.requires.1 in
     let there = fits_named a.image.now a.h _ a.d.a good.a in
-    (subst (λ (r : KindRow). named r.a a.d.a ≤ a.h.nodes) (sym c.row_of.ensures) there, c.before.before.requires.0)
+    (subst (λ (r : KindRow). named r.a a.d.a ≤ a.h.nodes) (sym c.row_of-line.ensures) there, c.requires.0)
 
-returns : tie.Need-returns
+returns-then-not-goes : tie.Need-returns-then-not-goes
 unfolding names_well
-returns c = rw (sym c.before.before.row_of.ensures, sym c.before.goes.ensures ∙ not-true _ c.if1.true)
+returns-then-not-goes c = rw (sym c.row_of-line.ensures, sym c.goes.ensures ∙ not-true _ c.if-not-goes.true-raw)
 
 goes-requires-2 : tie.Need-goes-requires-2
 goes-requires-2 c κs =
-    let a = c.before.before.before.before.args in
-    let good = good_node a.image.now a.h a.d c.before.before.before.before.requires.1 in
+    let a = c.args in
+    let good = good_node a.image.now a.h a.d c.requires.1 in
     let there = fits_named a.image.now a.h _ a.d.b good.b in
-    (subst (λ (r : KindRow). named r.b a.d.b ≤ a.h.nodes) (sym c.before.before.row_of.ensures) there, c.before.before.before.before.requires.0)
+    (subst (λ (r : KindRow). named r.b a.d.b ≤ a.h.nodes) (sym c.row_of-line.ensures) there, c.requires.0)
 
-returns-2 : tie.Need-returns-2
+returns-then-not-goes-2 : tie.Need-returns-then-not-goes-2
 unfolding names_well
-returns-2 c = rw (sym c.before.before.before.before.row_of.ensures, sym c.before.before.before.goes.ensures ∙ not-false _ c.before.before.if1.false, sym c.before.goes2.ensures ∙ not-true _ c.if2.true)
+returns-then-not-goes-2 c = rw (sym c.row_of-line.ensures, sym c.goes.ensures ∙ not-false _ c.if-not-goes.false-raw, sym c.goes-2.ensures ∙ not-true _ c.if-not-goes-2.true-raw)
 
-row-of-requires-2 : tie.Need-row-of-requires-2
-row-of-requires-2 c κs = search rules
+row_of-whose-requires : tie.Need-row_of-whose-requires
+row_of-whose-requires c κs = search rules
 
 goes-requires-3 : tie.Need-goes-requires-3
 goes-requires-3 c κs =
-    let a = c.before.before.before.before.before.before.before.args in
-    let good = good_node a.image.now a.h a.d c.before.before.before.before.before.before.before.requires.1 in
-    (le_trans (named_le c.row-of2.result.a a.d.next) good.next, c.before.before.before.before.before.before.before.requires.0)
+    let a = c.args in
+    let good = good_node a.image.now a.h a.d c.requires.1 in
+    (le_trans (named_le c.row_of-whose.result.a a.d.next) good.next, c.requires.0)
 
-returns-3 : tie.Need-returns-3
+returns : tie.Need-returns
 unfolding names_well
-returns-3 c = rw (sym c.before.before.before.before.before.before.row_of.ensures, sym c.before.row-of2.ensures, sym c.before.before.before.before.before.goes.ensures ∙ not-false _ c.before.before.before.before.if1.false, sym c.before.before.before.goes2.ensures ∙ not-false _ c.before.before.if2.false) c.goes3.ensures
+returns c = rw (sym c.row_of-line.ensures, sym c.row_of-whose.ensures, sym c.goes.ensures ∙ not-false _ c.if-not-goes.false-raw, sym c.goes-2.ensures ∙ not-false _ c.if-not-goes-2.false-raw) c.goes-3.ensures
 
 pub names_well_spec : {M : Type 1} → statement M
 names_well_spec =
     tie.close
     (tie.spec
-    row-of-requires
+    row_of-line-requires
     goes-requires
-    returns
+    returns-then-not-goes
     goes-requires-2
-    returns-2
-    row-of-requires-2
+    returns-then-not-goes-2
+    row_of-whose-requires
     goes-requires-3
-    returns-3)
+    returns)

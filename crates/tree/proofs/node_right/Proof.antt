@@ -17,65 +17,65 @@ by_counts : (h : Header) (n kind s t : ℕ) → is_named_well h n kind (grown 0 
 unfolding is_named_well
 by_counts h n kind s t = rw (tells s 1 (lit< tt), tells t 0 (lit< tt))
 
-node-at-requires : tie.Need-node-at-requires
-node-at-requires c κs = search rules
+node_at-d-requires : tie.Need-node_at-d-requires
+node_at-d-requires c κs = search rules
 
-element-copy-out-names-well : tie.Need-element-copy-out-names-well
-element-copy-out-names-well c = search rules
+bounds-chains-at : tie.Need-bounds-chains-at
+bounds-chains-at c = search rules
 
-names-well-requires : tie.Need-names-well-requires
-names-well-requires c κs =
-    let p = c.before.before.before.requires in
-    let a = c.before.before.before.args in
-    (p.2, ap (node_good a.image.now a.h) c.before.node_at.ensures ∙ p.3.good a.n p.0 p.1)
+names_well-requires : tie.Need-names_well-requires
+names_well-requires c κs =
+    let p = c.requires in
+    let a = c.args in
+    (p.2, ap (node_good a.image.now a.h) c.node_at-d.ensures ∙ p.3.good a.n p.0 p.1)
 
-returns : tie.Need-returns
+returns-then-not-names_well : tie.Need-returns-then-not-names_well
 unfolding node_right
-returns c =
-    let p = c.before.before.before.before.before.requires in
-    let small : c.before.before.before.before.before.args.n < 4096 = omega (arith, p.3.few) in
-    rw (sym c.before.before.before.node_at.ensures, sym (p.4.chained.at c.before.before.before.before.before.args.n small), sym c.before.names-well.ensures ∙ not-true _ c.if1.true)
+returns-then-not-names_well c =
+    let p = c.requires in
+    let small : c.args.n < 4096 = omega (arith, p.3.few) in
+    rw (sym c.node_at-d.ensures, sym (p.4.chained.at c.args.n small), sym c.names_well.ensures ∙ not-true _ c.if-not-names_well.true-raw)
 
 parts-requires : tie.Need-parts-requires
 parts-requires c κs = search rules
 
-returns-2 : tie.Need-returns-2
+returns-then-parts-gt64 : tie.Need-returns-then-parts-gt64
 unfolding node_right
-returns-2 c =
-    let p = c.before.before.before.before.before.before.before.requires in
-    let small : c.before.before.before.before.before.before.before.args.n < 4096 = omega (arith, p.3.few) in
-    rw (sym c.before.before.before.before.before.node_at.ensures, sym (p.4.chained.at c.before.before.before.before.before.before.before.args.n small), sym c.before.before.before.names-well.ensures ∙ not-false _ c.before.before.if1.false, sym c.before.parts.ensures, lt-leb _ _ c.if2.true)
+returns-then-parts-gt64 c =
+    let p = c.requires in
+    let small : c.args.n < 4096 = omega (arith, p.3.few) in
+    rw (sym c.node_at-d.ensures, sym (p.4.chained.at c.args.n small), sym c.names_well.ensures ∙ not-false _ c.if-not-names_well.false-raw, sym c.parts.ensures, lt-leb _ _ c.if-parts-gt64.true)
 
-element-copy-out-is-named-well : tie.Need-element-copy-out-is-named-well
-element-copy-out-is-named-well c = search rules
+bounds-names-at : tie.Need-bounds-names-at
+bounds-names-at c = search rules
 
-element-copy-out-is-named-well-2 : tie.Need-element-copy-out-is-named-well-2
-element-copy-out-is-named-well-2 c = search rules
+bounds-bodies-at : tie.Need-bounds-bodies-at
+bounds-bodies-at c = search rules
 
-is-named-well-requires : tie.Need-is-named-well-requires
-is-named-well-requires c κs = search rules
+is_named_well-requires : tie.Need-is_named_well-requires
+is_named_well-requires c κs = search rules
 
-returns-3 : tie.Need-returns-3
+returns : tie.Need-returns
 unfolding node_right
-returns-3 c =
-    let p = c.before.before.before.before.before.before.before.before.before.before.requires in
-    let a = c.before.before.before.before.before.before.before.before.before.before.args in
+returns c =
+    let p = c.requires in
+    let a = c.args in
     let small : a.n < 4096 = omega (arith, p.3.few) in
-    let kind = c.before.before.before.before.before.before.before.before.node_at.result.kind in
-    rw (sym c.before.before.before.before.before.before.before.before.node_at.ensures, sym (p.4.chained.at a.n small), sym c.before.before.before.before.before.before.names-well.ensures ∙ not-false _ c.before.before.before.before.before.if1.false, sym c.before.before.before.before.parts.ensures, le-leb _ _ c.before.before.before.if2.false)
-    (c.is-named-well.ensures ∙ ap₂ (is_named_well a.h a.n kind) (p.4.named.at a.n small) (p.4.as_body.at a.n small) ∙ by_counts a.h a.n kind _ _)
+    let kind = c.node_at-d.result.kind in
+    rw (sym c.node_at-d.ensures, sym (p.4.chained.at a.n small), sym c.names_well.ensures ∙ not-false _ c.if-not-names_well.false-raw, sym c.parts.ensures, le-leb _ _ c.if-parts-gt64.false)
+    (c.is_named_well.ensures ∙ ap₂ (is_named_well a.h a.n kind) (p.4.named.at a.n small) (p.4.as_body.at a.n small) ∙ by_counts a.h a.n kind _ _)
 
 pub node_right_spec : {M : Type 1} → statement M
 node_right_spec =
     tie.close
     (tie.spec
-    node-at-requires
-    element-copy-out-names-well
-    names-well-requires
-    returns
+    node_at-d-requires
+    bounds-chains-at
+    names_well-requires
+    returns-then-not-names_well
     parts-requires
-    returns-2
-    element-copy-out-is-named-well
-    element-copy-out-is-named-well-2
-    is-named-well-requires
-    returns-3)
+    returns-then-parts-gt64
+    bounds-names-at
+    bounds-bodies-at
+    is_named_well-requires
+    returns)

@@ -19,11 +19,11 @@ use Rattle.tree.proofs.Good.{good_node, fits_named}
 use Rattle.tree.proofs.parts.Statement.{statement}
 use Rattle.tree.proofs.parts.Tie as tie
 
-abbrev invariant-loop : tie.invariant-loop
-invariant-loop image h n at₀ count₀ at count = (count ≤ 65) × (1 ≤ at) × (at ≤ h.nodes) × (parts image h 65 n ≡ count + parts image h (65 - count) at)
+abbrev invariant-loop-count : tie.invariant-loop-count
+invariant-loop-count image h n at₀ count₀ at count = (count ≤ 65) × (1 ≤ at) × (at ≤ h.nodes) × (parts image h 65 n ≡ count + parts image h (65 - count) at)
 
-abbrev decreases-loop : tie.decreases-loop
-decreases-loop image h n at₀ count₀ at count = 65 - count
+abbrev decreases-loop-count : tie.decreases-loop-count
+decreases-loop-count image h n at₀ count₀ at count = 65 - count
 
 -- what a part's field a names is its a
 named_part : (kind x : ℕ) → is_within 22 23 kind ≡ true → named (row_of kind).a x ≡ x
@@ -46,74 +46,74 @@ module _ (image : List ℕ) (h : Header) (at count : ℕ) (d : Node) (is : d ≡
       ap (λ (most : ℕ). parts image h most at) more
       ∙ ap (λ (o : Node). cond (is_within 22 23 o.kind) (suc (cond (ltb at o.a) (parts image h (65 - (count + 1)) o.a) 0)) 0) (sym is)
 
-loop-holds : tie.Need-loop-init invariant-loop decreases-loop
-loop-holds c = (omega arith, c.before.requires.0, c.before.requires.1, omega arith)
+loop-count-init : tie.Need-loop-count-init invariant-loop-count decreases-loop-count
+loop-count-init c = (omega arith, c.requires.0, c.requires.1, omega arith)
 
-cast-node-at : tie.Need-overflow-cast-node-at invariant-loop decreases-loop
-cast-node-at c = search rules
+overflow_cast-at : tie.Need-overflow_cast-at invariant-loop-count decreases-loop-count
+overflow_cast-at c = search rules
 
-node-at-requires : tie.Need-node-at-requires invariant-loop decreases-loop
-node-at-requires c κs = search rules
+node_at-d-requires : tie.Need-node_at-d-requires invariant-loop-count decreases-loop-count
+node_at-d-requires c κs = search rules
 
-is-part-requires : tie.Need-is-part-requires invariant-loop decreases-loop
-is-part-requires c κs = search rules
+is_part-requires : tie.Need-is_part-requires invariant-loop-count decreases-loop-count
+is_part-requires c κs = search rules
 
-returns : tie.Need-returns invariant-loop decreases-loop
-returns c =
-    let l = c.before.before.before.before.loop in
-    let d = c.before.before.node_at in
-    let stop = turn c.before.before.before.before.before.before.args.image.now c.before.before.before.before.before.before.args.h l.at l.count d.result d.ensures c.before.before.before.loop-test.true in
-    let none = rw (sym c.before.is-part.ensures ∙ not-true _ c.if1.true) at stop in
+returns-then-not-is_part : tie.Need-returns-then-not-is_part invariant-loop-count decreases-loop-count
+returns-then-not-is_part c =
+    let l = c.loop-count in
+    let d = c.node_at-d in
+    let stop = turn c.args.image.now c.args.h l.at l.count d.result d.ensures c.loop-count-test.true in
+    let none = rw (sym c.is_part.ensures ∙ not-true _ c.if-not-is_part.true-raw) at stop in
     omega (arith, l.invariant.3, none)
 
-add-count : tie.Need-overflow-add-count invariant-loop decreases-loop
-add-count c = search rules
+overflow_add-count : tie.Need-overflow_add-count invariant-loop-count decreases-loop-count
+overflow_add-count c = search rules
 
-returns-2 : tie.Need-returns-2 invariant-loop decreases-loop
-returns-2 c =
-    let l = c.before.before.before.before.before.before.loop in
-    let d = c.before.before.before.before.node_at in
-    let stop = turn c.before.before.before.before.before.before.before.before.args.image.now c.before.before.before.before.before.before.before.before.args.h l.at l.count d.result d.ensures c.before.before.before.before.before.loop-test.true in
-    let one = rw (sym c.before.before.before.is-part.ensures ∙ not-false _ c.before.before.if1.false, le-ltb _ _ c.if2.true) at stop in
+returns-then-d-at : tie.Need-returns-then-d-at invariant-loop-count decreases-loop-count
+returns-then-d-at c =
+    let l = c.loop-count in
+    let d = c.node_at-d in
+    let stop = turn c.args.image.now c.args.h l.at l.count d.result d.ensures c.loop-count-test.true in
+    let one = rw (sym c.is_part.ensures ∙ not-false _ c.if-not-is_part.false-raw, le-ltb _ _ c.if-d-at.true) at stop in
     omega (arith, l.invariant.3, one)
 
-loop-less : tie.Need-loop-smaller invariant-loop decreases-loop
-loop-less c = omega arith
+loop-count-smaller : tie.Need-loop-count-smaller invariant-loop-count decreases-loop-count
+loop-count-smaller c = omega arith
 
-loop-again : tie.Need-loop-preserved invariant-loop decreases-loop
-loop-again c =
-    let a = c.before.before.before.before.before.before.before.before.args in
+loop-count-preserved : tie.Need-loop-count-preserved invariant-loop-count decreases-loop-count
+loop-count-preserved c =
+    let a = c.args in
     let image = a.image.now in
-    let l = c.before.before.before.before.before.before.loop in
-    let d = c.before.before.before.before.node_at in
-    let is = sym c.before.before.before.is-part.ensures ∙ not-false _ c.before.before.if1.false in
-    let on = rw (is, lt-ltb _ _ c.if2.false) at (turn image a.h l.at l.count d.result d.ensures c.before.before.before.before.before.loop-test.true) in
-    let good = c.before.before.before.before.before.before.before.before.requires.3.good l.at l.invariant.1 l.invariant.2 in
+    let l = c.loop-count in
+    let d = c.node_at-d in
+    let is = sym c.is_part.ensures ∙ not-false _ c.if-not-is_part.false-raw in
+    let on = rw (is, lt-ltb _ _ c.if-d-at.false) at (turn image a.h l.at l.count d.result d.ensures c.loop-count-test.true) in
+    let good = c.requires.3.good l.at l.invariant.1 l.invariant.2 in
     let there = fits_named image a.h _ d.result.a (good_node image a.h d.result (ap (node_good image a.h) d.ensures ∙ good)).a in
     let within : d.result.a ≤ a.h.nodes = rw (named_part d.result.kind d.result.a is) at there in
     (omega arith, omega arith, within, omega (arith, l.invariant.3, on))
 
-returns-3 : tie.Need-returns-3 invariant-loop decreases-loop
+returns : tie.Need-returns invariant-loop-count decreases-loop-count
 unfolding parts
-returns-3 c =
-    let l = c.before.loop in
+returns c =
+    let l = c.loop-count in
     let full : l.count ≡ 65 = omega arith in
-    let none : parts c.before.before.before.args.image.now c.before.before.before.args.h (65 - l.count) l.at ≡ 0 = rw full in
+    let none : parts c.args.image.now c.args.h (65 - l.count) l.at ≡ 0 = rw full in
     omega (arith, l.invariant.3, none)
 
 pub parts_spec : {M : Type 1} → statement M
 parts_spec =
     tie.close
     (tie.spec
-    invariant-loop
-    decreases-loop
-    loop-holds
-    cast-node-at
-    node-at-requires
-    is-part-requires
-    returns
-    add-count
-    returns-2
-    loop-less
-    loop-again
-    returns-3)
+    invariant-loop-count
+    decreases-loop-count
+    loop-count-init
+    overflow_cast-at
+    node_at-d-requires
+    is_part-requires
+    returns-then-not-is_part
+    overflow_add-count
+    returns-then-d-at
+    loop-count-smaller
+    loop-count-preserved
+    returns)

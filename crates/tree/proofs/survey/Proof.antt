@@ -16,11 +16,11 @@ use Rattle.tree.proofs.Marking.{says_same}
 use Rattle.tree.proofs.survey.Statement.{statement}
 use Rattle.tree.proofs.survey.Tie as tie
 
-abbrev invariant-loop : tie.invariant-loop
-invariant-loop image h names₀ chains₀ nodes n₀ names chains n = (n ≤ nodes) × Added names₀ names (node_names image h n) × Holds chains (chain_by image h n)
+abbrev invariant-loop-n : tie.invariant-loop-n
+invariant-loop-n image h names₀ chains₀ nodes n₀ names chains n = (n ≤ nodes) × Added names₀ names (node_names image h n) × Holds chains (chain_by image h n)
 
-abbrev decreases-loop : tie.decreases-loop
-decreases-loop image h names₀ chains₀ nodes n₀ names chains n = nodes - n
+abbrev decreases-loop-n : tie.decreases-loop-n
+decreases-loop-n image h names₀ chains₀ nodes n₀ names chains n = nodes - n
 
 -- one node more
 more_names : (image : List ℕ) (h : Header) (n : ℕ) (d : Node) (a b c : List ℕ) → d ≡ node_at image h (n + 1) → Added a b (node_names image h n) → Added b c (names_of d) → Added a c (node_names image h (n + 1))
@@ -41,64 +41,64 @@ more_chains image h n d a b e l p q =
           ∙ ap (λ (i : ℕ). chain_by image h i m) (sym (add-one n));
     }
 
-loop-holds : tie.Need-loop-init invariant-loop decreases-loop
+loop-n-init : tie.Need-loop-n-init invariant-loop-n decreases-loop-n
 unfolding node_names chain_by
-loop-holds c = (omega arith, added_none _, record { long = c.before.requires.3.long; at = c.before.requires.3.at })
+loop-n-init c = (omega arith, added_none _, record { long = c.requires.3.long; at = c.requires.3.at })
 
-add-n : tie.Need-overflow-add-n invariant-loop decreases-loop
-add-n c = search rules
+overflow_add-n : tie.Need-overflow_add-n invariant-loop-n decreases-loop-n
+overflow_add-n c = search rules
 
-cast-node-at : tie.Need-overflow-cast-node-at invariant-loop decreases-loop
-cast-node-at c = search rules
+overflow_cast-n : tie.Need-overflow_cast-n invariant-loop-n decreases-loop-n
+overflow_cast-n c = search rules
 
-node-at-requires : tie.Need-node-at-requires invariant-loop decreases-loop
-node-at-requires c κs = search rules
+node_at-d-requires : tie.Need-node_at-d-requires invariant-loop-n decreases-loop-n
+node_at-d-requires c κs = search rules
 
-name-node-requires : tie.Need-name-node-requires invariant-loop decreases-loop
-name-node-requires c κs =
-    let b = node_below _ _ _ c.before.node_at.result c.before.node_at.ensures in
-    (b.0, b.1, b.2, c.before.before.before.loop.invariant.1.long ∙ c.before.before.before.before.before.requires.2)
+name_node-requires : tie.Need-name_node-requires invariant-loop-n decreases-loop-n
+name_node-requires c κs =
+    let b = node_below _ _ _ c.node_at-d.result c.node_at-d.ensures in
+    (b.0, b.1, b.2, c.loop-n.invariant.1.long ∙ c.requires.2)
 
-mark-node-requires : tie.Need-mark-node-requires invariant-loop decreases-loop
-mark-node-requires c κs =
-    let b = node_below _ _ _ c.before.before.before.node_at.result c.before.before.before.node_at.ensures in
-    (omega arith, b.0, b.2, c.before.before.before.before.before.loop.invariant.2.long)
+mark_node-requires : tie.Need-mark_node-requires invariant-loop-n decreases-loop-n
+mark_node-requires c κs =
+    let b = node_below _ _ _ c.node_at-d.result c.node_at-d.ensures in
+    (omega arith, b.0, b.2, c.loop-n.invariant.2.long)
 
-loop-less : tie.Need-loop-smaller invariant-loop decreases-loop
-loop-less c = omega arith
+loop-n-smaller : tie.Need-loop-n-smaller invariant-loop-n decreases-loop-n
+loop-n-smaller c = omega arith
 
-loop-again : tie.Need-loop-preserved invariant-loop decreases-loop
-loop-again c =
-    let i = c.before.before.before.before.before.before.loop.invariant in
-    let image = c.before.before.before.before.before.before.before.before.args.image.now in
-    let d = c.before.before.before.before.node_at in (
+loop-n-preserved : tie.Need-loop-n-preserved invariant-loop-n decreases-loop-n
+loop-n-preserved c =
+    let i = c.loop-n.invariant in
+    let image = c.args.image.now in
+    let d = c.node_at-d in (
       omega arith,
-      more_names image c.before.before.before.before.before.before.before.before.args.h c.before.before.before.before.before.before.loop.n d.result _ _ _ d.ensures i.1 c.before.before.name-node.ensures,
-      more_chains image c.before.before.before.before.before.before.before.before.args.h c.before.before.before.before.before.before.loop.n d.result _ _ d.ensures (omega arith) i.2 c.mark-node.ensures,
+      more_names image c.args.h c.loop-n.n d.result _ _ _ d.ensures i.1 c.name_node.ensures,
+      more_chains image c.args.h c.loop-n.n d.result _ _ d.ensures (omega arith) i.2 c.mark_node.ensures,
     )
 
-returns : tie.Need-returns invariant-loop decreases-loop
+returns : tie.Need-returns invariant-loop-n decreases-loop-n
 returns c =
-    let i = c.before.loop.invariant in
-    let a = c.before.before.before.args in
+    let i = c.loop-n.invariant in
+    let a = c.args in
     let image = a.image.now in
-    let all : c.before.loop.n ≡ a.h.nodes = omega arith in (
-      subst (λ (n : ℕ). Added a.names.now c.before.loop.names (node_names image a.h n)) all i.1,
-      subst (λ (n : ℕ). Holds c.before.loop.chains (chain_by image a.h n)) all i.2,
+    let all : c.loop-n.n ≡ a.h.nodes = omega arith in (
+      subst (λ (n : ℕ). Added a.names.now c.loop-n.names (node_names image a.h n)) all i.1,
+      subst (λ (n : ℕ). Holds c.loop-n.chains (chain_by image a.h n)) all i.2,
     )
 
 pub survey_spec : {M : Type 1} → statement M
 survey_spec =
     tie.close
     (tie.spec
-    invariant-loop
-    decreases-loop
-    loop-holds
-    add-n
-    cast-node-at
-    node-at-requires
-    name-node-requires
-    mark-node-requires
-    loop-less
-    loop-again
+    invariant-loop-n
+    decreases-loop-n
+    loop-n-init
+    overflow_add-n
+    overflow_cast-n
+    node_at-d-requires
+    name_node-requires
+    mark_node-requires
+    loop-n-smaller
+    loop-n-preserved
     returns)
