@@ -8,25 +8,25 @@ use Rattle.fields.proofs.Tests.{same_leb}
 use Rattle.pouring.proofs.has_room.Statement.{statement}
 use Rattle.pouring.proofs.has_room.Tie as tie
 
-add-used : tie.Need-overflow-add-used
-add-used c = search rules
+overflow_add-used : tie.Need-overflow_add-used
+overflow_add-used c = search rules
 
-add-used-2 : tie.Need-overflow-add-used-2
-add-used-2 c = search rules
+overflow_add-used-2 : tie.Need-overflow_add-used-2
+overflow_add-used-2 c = search rules
 
-cast-used : tie.Need-overflow-cast-used
-cast-used c = search rules
+overflow_cast-used : tie.Need-overflow_cast-used
+overflow_cast-used c = search rules
+
+returns-then-len-used : tie.Need-returns-then-len-used
+returns-then-len-used c =
+    let a = c.args in
+    sym (lt-leb (8 * a.bytes + a.bits + a.width) (8 * a.len) (omega arith))
 
 returns : tie.Need-returns
 returns c =
-    let a = c.before.args in
-    sym (lt-leb (8 * a.bytes + a.bits + a.width) (8 * a.len) (omega arith))
-
-returns-2 : tie.Need-returns-2
-returns-2 c =
-    let a = c.before.args in
+    let a = c.args in
     same_leb a.bytes (a.len - (a.bits + a.width + 7) / 8) (8 * a.bytes + a.bits + a.width) (8 * a.len)
     (λ h. omega arith) (λ h. omega arith)
 
 pub has_room_spec : {M : Type 1} → statement M
-has_room_spec = tie.close (tie.spec add-used add-used-2 cast-used returns returns-2)
+has_room_spec = tie.close (tie.spec overflow_add-used overflow_add-used-2 overflow_cast-used returns-then-len-used returns)

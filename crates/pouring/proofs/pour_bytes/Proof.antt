@@ -8,70 +8,67 @@ use Rattle.pouring.proofs.Pouring.{pours_no_bytes, pours_byte}
 use Rattle.pouring.proofs.pour_bytes.Statement.{statement}
 use Rattle.pouring.proofs.pour_bytes.Tie as tie
 
-abbrev invariant-loop : tie.invariant-loop
-invariant-loop source from count out₀ bytes bits i₀ out i = (i ≤ count) × Pours (8 * bytes + bits) (byte_bits (slice from (from + i) source)) out₀ out
+abbrev invariant-loop-i : tie.invariant-loop-i
+invariant-loop-i source from count out₀ bytes bits i₀ out i = (i ≤ count) × Pours (8 * bytes + bits) (byte_bits (slice from (from + i) source)) out₀ out
 
-abbrev decreases-loop : tie.decreases-loop
-decreases-loop source from count out₀ bytes bits i₀ out i = count - i
+abbrev decreases-loop-i : tie.decreases-loop-i
+decreases-loop-i source from count out₀ bytes bits i₀ out i = count - i
 
-loop-holds : tie.Need-loop-init invariant-loop decreases-loop
-loop-holds c =
-    let a = c.before.before.args in
+loop-i-init : tie.Need-loop-i-init invariant-loop-i decreases-loop-i
+loop-i-init c =
+    let a = c.args in
     (omega arith, pours_no_bytes a.source.now a.from (8 * a.bytes + a.bits) a.out.now)
 
-add-pour : tie.Need-overflow-add-pour invariant-loop decreases-loop
-add-pour c = omega arith
+overflow_add-bytes : tie.Need-overflow_add-bytes invariant-loop-i decreases-loop-i
+overflow_add-bytes c = omega arith
 
-add-pour-2 : tie.Need-overflow-add-pour-2 invariant-loop decreases-loop
-add-pour-2 c = omega arith
+overflow_add-from : tie.Need-overflow_add-from invariant-loop-i decreases-loop-i
+overflow_add-from c = omega arith
 
-shared-slice-read-pour : tie.Need-shared-slice-read-pour invariant-loop decreases-loop
-shared-slice-read-pour c = omega arith
+bounds-source-from : tie.Need-bounds-source-from invariant-loop-i decreases-loop-i
+bounds-source-from c = omega arith
 
-cast-pour : tie.Need-overflow-cast-pour invariant-loop decreases-loop
-cast-pour c =
-    let l = c.before.before.before in
-    omega (arith, c.shared-slice-known2.given (l.before.before.before.args.from + l.loop.i))
+overflow_cast-source : tie.Need-overflow_cast-source invariant-loop-i decreases-loop-i
+overflow_cast-source c =
+    omega (arith, c.shared_slice_known-in-loop-i-1.given (c.args.from + c.loop-i.i))
 
-pour-requires : tie.Need-pour-requires invariant-loop decreases-loop
-pour-requires c κs = omega (arith, c.before.before.before.loop.invariant.1.long)
+pour-requires : tie.Need-pour-requires invariant-loop-i decreases-loop-i
+pour-requires c κs = omega (arith, c.loop-i.invariant.1.long)
 
-add-i : tie.Need-overflow-add-i invariant-loop decreases-loop
-add-i c = omega arith
+overflow_add-i : tie.Need-overflow_add-i invariant-loop-i decreases-loop-i
+overflow_add-i c = omega arith
 
-loop-less : tie.Need-loop-smaller invariant-loop decreases-loop
-loop-less c = omega arith
+loop-i-smaller : tie.Need-loop-i-smaller invariant-loop-i decreases-loop-i
+loop-i-smaller c = omega arith
 
-loop-again : tie.Need-loop-preserved invariant-loop decreases-loop
-loop-again c =
-    let u = c.before.before in
-    let l = u.before.before.before.before in
-    let a = l.before.before.before.args in
-    (omega arith, pours_byte a.source.now a.from l.loop.i (omega arith) l.loop.invariant.1 u.pour.ensures (omega arith))
+loop-i-preserved : tie.Need-loop-i-preserved invariant-loop-i decreases-loop-i
+loop-i-preserved c =
+    let a = c.args in
+    (omega arith, pours_byte a.source.now a.from c.loop-i.i (omega arith) c.loop-i.invariant.1 c.pour.ensures (omega arith))
 
-same_length : tie.Need-same-length invariant-loop decreases-loop
-same_length c = c.before.loop.invariant.1.long
+shape_of-out : tie.Need-shape_of-out invariant-loop-i decreases-loop-i
+shape_of-out c = c.loop-i.invariant.1.long
 
-returns : tie.Need-returns invariant-loop decreases-loop
+returns : tie.Need-returns invariant-loop-i decreases-loop-i
 returns c =
-    let l = c.before.loop in
-    let all : l.i ≡ c.before.before.before.before.args.count = omega arith in
+    let l = c.loop-i in
+    let all : l.i ≡ c.args.count = omega arith in
     rw all at l.invariant.1
 
 pub pour_bytes_spec : {M : Type 1} → statement M
 pour_bytes_spec =
     tie.close
     (tie.spec
-    invariant-loop
-    decreases-loop
-    loop-holds
-    add-pour
-    add-pour-2
-    shared-slice-read-pour
-    cast-pour
+    invariant-loop-i
+    decreases-loop-i
+    loop-i-init
+    overflow_add-bytes
+    overflow_add-from
+    bounds-source-from
+    overflow_cast-source
     pour-requires
-    add-i
-    loop-less
-    loop-again
-    same_length
+    overflow_add-i
+    loop-i-smaller
+    loop-i-preserved
+    shape_of-out
     returns)

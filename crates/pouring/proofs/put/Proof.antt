@@ -12,67 +12,63 @@ use Rattle.pouring.proofs.put.Statement.{statement}
 use Rattle.pouring.proofs.put.Tie as tie
 
 -- what the test tells
-room : (c : tie.Else1) → 8 * c.before.before.before.args.bytes + c.before.before.before.args.bits + c.before.before.before.args.width ≤ 8 * length c.before.before.before.args.out.now
-room c = leb-true _ _ (sym c.before.has_room.ensures ∙ not-false _ c.if1.false)
+room : (c : tie.Else-not-has_room) → 8 * c.args.bytes + c.args.bits + c.args.width ≤ 8 * length c.args.out.now
+room c = leb-true _ _ (sym c.has_room.ensures ∙ not-false _ c.if-not-has_room.false-raw)
 
-has-room-requires : tie.Need-has-room-requires
-has-room-requires c κs = search rules
+has_room-requires : tie.Need-has_room-requires
+has_room-requires c κs = search rules
 
-returns : tie.Need-returns
-returns c =
-    let s = c.before.before.before in
-    let a = s.args in
-    puts_no_room a.writing (8 * a.bytes + a.bits) a.width _ _ a.out.now (number_spells a.width a.x) s.requires.2
-    (leb-false _ _ (sym c.before.has_room.ensures ∙ not-true _ c.if1.true))
+returns-then-not-has_room : tie.Need-returns-then-not-has_room
+returns-then-not-has_room c =
+    let a = c.args in
+    puts_no_room a.writing (8 * a.bytes + a.bits) a.width _ _ a.out.now (number_spells a.width a.x) c.requires.2
+    (leb-false _ _ (sym c.has_room.ensures ∙ not-true _ c.if-not-has_room.true-raw))
 
-add-spot-at : tie.Need-overflow-add-spot-at
-add-spot-at c = search rules
+overflow_add-bits : tie.Need-overflow_add-bits
+overflow_add-bits c = search rules
 
-spot-at-requires : tie.Need-spot-at-requires
-spot-at-requires c κs = omega (arith, room c.before)
+spot_at-requires : tie.Need-spot_at-requires
+spot_at-requires c κs = omega (arith, room c.before)
 
-returns-2 : tie.Need-returns-2
-returns-2 c =
-    let e = c.before.before in
-    let a = e.before.before.before.args in
+returns-then-not-writing : tie.Need-returns-then-not-writing
+returns-then-not-writing c =
+    let a = c.args in
     let p = 8 * a.bytes + a.bits in
     let at : 8 * a.bytes + (a.bits + a.width) ≡ p + a.width = omega arith in
-    puts_measured a.writing p a.width _ _ a.out.now (number_spells a.width a.x) _ (room e)
-    (c.spot-at.ensures ∙ ap spot_at at) (not-true _ c.before.if2.true)
+    puts_measured a.writing p a.width _ _ a.out.now (number_spells a.width a.x) _ (room c.before.before)
+    (c.spot_at.ensures ∙ ap spot_at at) (not-true _ c.if-not-writing.true-raw)
 
 pour-requires : tie.Need-pour-requires
 pour-requires c κs = omega (arith, room c.before.before)
 
-add-spot-at-2 : tie.Need-overflow-add-spot-at-2
-add-spot-at-2 c = search rules
+overflow_add-bits-2 : tie.Need-overflow_add-bits-2
+overflow_add-bits-2 c = search rules
 
-spot-at-requires-2 : tie.Need-spot-at-requires-2
-spot-at-requires-2 c κs = omega (arith, room c.before.before.before.before.before)
+spot_at-requires-2 : tie.Need-spot_at-requires-2
+spot_at-requires-2 c κs = omega (arith, room c.before.before.before.before.before)
 
-same_length : tie.Need-same-length
-same_length c = search rules
+shape_of-out : tie.Need-shape_of-out
+shape_of-out c = search rules
 
-returns-3 : tie.Need-returns-3
-returns-3 c =
-    let u = c.before.before.before in
-    let e = u.before.before.before in
-    let a = e.before.before.before.args in
+returns : tie.Need-returns
+returns c =
+    let a = c.args in
     let p = 8 * a.bytes + a.bits in
     let at : 8 * a.bytes + (a.bits + a.width) ≡ p + a.width = omega arith in
-    puts_written a.writing p a.width _ _ a.out.now (number_spells a.width a.x) _ (room e)
-    (c.spot-at2.ensures ∙ ap spot_at at) (not-false _ u.before.before.if2.false) _ u.pour.ensures
+    puts_written a.writing p a.width _ _ a.out.now (number_spells a.width a.x) _ (room c.before.before.before.before.before.before)
+    (c.spot_at-2.ensures ∙ ap spot_at at) (not-false _ c.if-not-writing.false-raw) _ c.pour.ensures
 
 pub put_spec : {M : Type 1} → statement M
 put_spec =
     tie.close
     (tie.spec
-    has-room-requires
-    returns
-    add-spot-at
-    spot-at-requires
-    returns-2
+    has_room-requires
+    returns-then-not-has_room
+    overflow_add-bits
+    spot_at-requires
+    returns-then-not-writing
     pour-requires
-    add-spot-at-2
-    spot-at-requires-2
-    same_length
-    returns-3)
+    overflow_add-bits-2
+    spot_at-requires-2
+    shape_of-out
+    returns)

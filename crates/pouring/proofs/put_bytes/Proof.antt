@@ -1,6 +1,5 @@
 -- `pouring::put_bytes` meets its contract: bytes are measured or poured where they have room. Assumes nothing.
 use mathlib.Core.Path.{◌≡◌, sym, ap, ap₂, ◌∙◌}
-use mathlib.Core.Logic.{⊎_elim}
 use mathlib.Core.List.{List}
 use Prim.Native.Nat.{ℕ, ◌+◌, ◌*◌, ◌/◌, ◌%◌, ◌≤◌}
 use native.Mathlib.Omega.{arith}
@@ -16,10 +15,11 @@ use Rattle.pouring.proofs.Written.{Spells, bytes_spell}
 use Rattle.pouring.proofs.Places.{puts_no_room, puts_measured, puts_written}
 use Rattle.pouring.proofs.put_bytes.Statement.{statement}
 use Rattle.pouring.proofs.put_bytes.Tie as tie
+use Rattle.pouring.proofs.put_bytes.Lts.{then-writing, else-writing}
 
 -- what the test tells
-room : (c : tie.Else1) → 8 * c.before.before.before.before.args.bytes + c.before.before.before.before.args.bits + 8 * c.before.before.before.before.args.count ≤ 8 * length c.before.before.before.before.args.out.now
-room c = leb-true _ _ (sym c.before.has-room-for.ensures ∙ not-false _ c.if1.false)
+room : (c : tie.Else-not-has_room_for) → 8 * c.args.bytes + c.args.bits + 8 * c.args.count ≤ 8 * length c.args.out.now
+room c = leb-true _ _ (sym c.has_room_for.ensures ∙ not-false _ c.if-not-has_room_for.false-raw)
 
 -- the bytes of the source
 abbrev part : tie.Start → List ℕ
@@ -36,42 +36,42 @@ place s =
     let some : a.bits ≡ (8 * a.bytes + a.bits + 8 * a.count) % 8 = omega arith in
     ap₂ At whole some
 
-has-room-for-requires : tie.Need-has-room-for-requires
-has-room-for-requires c κs = search rules
+has_room_for-requires : tie.Need-has_room_for-requires
+has_room_for-requires c κs = search rules
+
+returns-then-not-has_room_for : tie.Need-returns-then-not-has_room_for
+returns-then-not-has_room_for c =
+    let a = c.args in
+    puts_no_room a.writing (8 * a.bytes + a.bits) (8 * a.count) _ _ a.out.now (spelt c.before.before.before.before) c.requires.2
+    (leb-false _ _ (sym c.has_room_for.ensures ∙ not-true _ c.if-not-has_room_for.true-raw))
+
+pour_bytes-requires : tie.Need-pour_bytes-requires
+pour_bytes-requires c κs =
+    (c.requires.0, c.requires.1, room c.before.before)
+
+overflow_add-result : tie.Need-overflow_add-result
+overflow_add-result c = omega (arith, room c.before)
+
+shape_of-out : tie.Need-shape_of-out
+shape_of-out c =
+    elim c.if-writing.branch [
+      | then-writing w ↦ ap length w.out-is ∙ w.pour_bytes.ensures.long
+      | else-writing w ↦ ap length w.out-is
+    ]
 
 returns : tie.Need-returns
 returns c =
-    let s = c.before.before.before.before in
-    let a = s.args in
-    puts_no_room a.writing (8 * a.bytes + a.bits) (8 * a.count) _ _ a.out.now (spelt s) s.requires.2
-    (leb-false _ _ (sym c.before.has-room-for.ensures ∙ not-true _ c.if1.true))
-
-pour-bytes-requires : tie.Need-pour-bytes-requires
-pour-bytes-requires c κs =
-    let e = c.before.before in
-    let s = e.before.before.before.before in
-    (s.requires.0, s.requires.1, room e)
-
-add-t9 : tie.Need-overflow-add-t9
-add-t9 c = omega (arith, room c.before)
-
-same_length : tie.Need-same-length
-same_length c = ⊎_elim (λ w. ap length w.5 ∙ w.2.ensures.long) (λ w. ap length w.1) c.if2.branch
-
-returns-2 : tie.Need-returns-2
-returns-2 c =
-    let e = c.before in
-    let s = e.before.before.before.before in
-    let a = s.args in
+    let a = c.args in
     let p = 8 * a.bytes + a.bits in
-    ⊎_elim
-    (λ w.
-    rw w.5
-    (puts_written a.writing p (8 * a.count) _ _ a.out.now (spelt s) _ (room e) (place s) w.0.taken _ w.2.ensures))
-    (λ w. rw w.1 (puts_measured a.writing p (8 * a.count) _ _ a.out.now (spelt s) _ (room e) (place s) w.0.left))
-    c.if2.branch
+    elim c.if-writing.branch [
+      | then-writing w ↦
+          rw w.out-is
+          (puts_written a.writing p (8 * a.count) _ _ a.out.now (spelt c.before.before.before.before.before) _ (room c.before) (place c.before.before.before.before.before) w.if-writing.true _ w.pour_bytes.ensures)
+      | else-writing w ↦
+          rw w.out-is (puts_measured a.writing p (8 * a.count) _ _ a.out.now (spelt c.before.before.before.before.before) _ (room c.before) (place c.before.before.before.before.before) w.if-writing.false)
+    ]
 
 pub put_bytes_spec : {M : Type 1} → statement M
 put_bytes_spec =
     tie.close
-    (tie.spec has-room-for-requires returns pour-bytes-requires add-t9 same_length returns-2)
+    (tie.spec has_room_for-requires returns-then-not-has_room_for pour_bytes-requires overflow_add-result shape_of-out returns)

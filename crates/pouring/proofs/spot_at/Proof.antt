@@ -7,11 +7,11 @@ use Rattle.pouring.specs.declared.Spot.TheVariants.{At}
 use Rattle.pouring.proofs.spot_at.Statement.{statement}
 use Rattle.pouring.proofs.spot_at.Tie as tie
 
-cast-t4 : tie.Need-overflow-cast-t4
-cast-t4 c = search rules
+overflow_cast-result : tie.Need-overflow_cast-result
+overflow_cast-result c = search rules
 
-add-t5 : tie.Need-overflow-add-t5
-add-t5 c = search rules
+overflow_add-result : tie.Need-overflow_add-result
+overflow_add-result c = search rules
 
 returns : tie.Need-returns
 returns c =
@@ -21,4 +21,4 @@ returns c =
     ap₂ At whole some
 
 pub spot_at_spec : {M : Type 1} → statement M
-spot_at_spec = tie.close (tie.spec cast-t4 add-t5 returns)
+spot_at_spec = tie.close (tie.spec overflow_cast-result overflow_add-result returns)

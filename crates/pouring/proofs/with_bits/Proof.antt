@@ -8,13 +8,13 @@ use Rattle.pouring.proofs.with_bits.Statement.{statement}
 use Rattle.pouring.proofs.with_bits.Tie as tie
 
 -- the new byte is a byte
-bound : (c : tie.After-down) → c.down.result * 2 ^ (8 - c.before.args.used) + c.before.args.x * 2 ^ (8 - c.before.args.used - c.before.args.width) < 256
+bound : (c : tie.After-down) → c.down.result * 2 ^ (8 - c.args.used) + c.args.x * 2 ^ (8 - c.args.used - c.args.width) < 256
 bound c =
-    let a = c.before.args in
-    rw c.down.ensures (filled_lt a.old a.used a.width a.x (omega arith) c.before.requires.0 c.before.requires.1)
+    let a = c.args in
+    rw c.down.ensures (filled_lt a.old a.used a.width a.x (omega arith) c.requires.0 c.requires.1)
 
-sub-rest : tie.Need-overflow-sub-rest
-sub-rest c = search rules
+overflow_sub-rest : tie.Need-overflow_sub-rest
+overflow_sub-rest c = search rules
 
 down-requires : tie.Need-down-requires
 down-requires c κs = search rules
@@ -22,33 +22,32 @@ down-requires c κs = search rules
 up-requires : tie.Need-up-requires
 up-requires c κs = omega (arith, bound c)
 
-sub-up : tie.Need-overflow-sub-up
-sub-up c = search rules
+overflow_sub-rest-2 : tie.Need-overflow_sub-rest-2
+overflow_sub-rest-2 c = search rules
 
 up-requires-2 : tie.Need-up-requires-2
 up-requires-2 c κs = omega (arith, bound c.before)
 
-add-result : tie.Need-overflow-add-result
-add-result c = omega (arith, bound c.before.before)
+overflow_add-result : tie.Need-overflow_add-result
+overflow_add-result c = omega (arith, bound c.before.before)
 
-cast-result : tie.Need-overflow-cast-result
-cast-result c = omega (arith, bound c.before.before)
+overflow_cast-result : tie.Need-overflow_cast-result
+overflow_cast-result c = omega (arith, bound c.before.before)
 
 returns : tie.Need-returns
 returns c =
-    let d = c.before.before in
-    let rest = 8 - d.before.args.used in
-    ap₂ (λ (m n : ℕ). m + n) (c.before.up.ensures ∙ ap (λ (n : ℕ). n * 2 ^ rest) d.down.ensures) c.up2.ensures
+    let rest = 8 - c.args.used in
+    ap₂ (λ (m n : ℕ). m + n) (c.up.ensures ∙ ap (λ (n : ℕ). n * 2 ^ rest) c.down.ensures) c.up-2.ensures
 
 pub with_bits_spec : {M : Type 1} → statement M
 with_bits_spec =
     tie.close
     (tie.spec
-    sub-rest
+    overflow_sub-rest
     down-requires
     up-requires
-    sub-up
+    overflow_sub-rest-2
     up-requires-2
-    add-result
-    cast-result
+    overflow_add-result
+    overflow_cast-result
     returns)

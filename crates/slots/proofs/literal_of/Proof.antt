@@ -15,79 +15,79 @@ use Rattle.slots.proofs.length_of.Reads as length-of-reads
 use Rattle.slots.proofs.low.Reads as low_reads
 use Rattle.slots.proofs.start_of.Reads as start-of-reads
 
-word-to-int-requires : tie.Need-word-to-int-requires
-word-to-int-requires c κs = search rules
+word_to_int-requires : tie.Need-word_to_int-requires
+word_to_int-requires c κs = search rules
 
-word-to-float-requires : tie.Need-word-to-float-requires
-word-to-float-requires c κs = search rules
+word_to_float-requires : tie.Need-word_to_float-requires
+word_to_float-requires c κs = search rules
 
 low-requires : tie.Need-low-requires
 low-requires c κs = search rules
 
-start-of-requires : tie.Need-start-of-requires
-start-of-requires c κs = search rules
+start_of-requires : tie.Need-start_of-requires
+start_of-requires c κs = search rules
 
-length-of-requires : tie.Need-length-of-requires
-length-of-requires c κs = search rules
+length_of-requires : tie.Need-length_of-requires
+length_of-requires c κs = search rules
 
-start-of-requires-2 : tie.Need-start-of-requires-2
-start-of-requires-2 c κs = search rules
+start_of-requires-in-7 : tie.Need-start_of-requires-in-7
+start_of-requires-in-7 c κs = search rules
 
-length-of-requires-2 : tie.Need-length-of-requires-2
-length-of-requires-2 c κs = search rules
+length_of-requires-in-7 : tie.Need-length_of-requires-in-7
+length_of-requires-in-7 c κs = search rules
 
-returns : tie.Need-returns
+returns-in-1 : tie.Need-returns-in-1
 unfolding literal_of
-returns c = rw (c.match.keys1)
+returns-in-1 c = rw (c.in-1.is)
 
-returns-2 : tie.Need-returns-2
+returns-in-2 : tie.Need-returns-in-2
 unfolding literal_of
-returns-2 c = rw (c.match.keys2)
+returns-in-2 c = rw (c.in-2.is)
 
-returns-3 : tie.Need-returns-3
+returns-in-3 : tie.Need-returns-in-3
 unfolding literal_of
-returns-3 c =
-    let f : SFits w64 c.word-to-int.result = search rules in
-    rw (c.before.match.keys3, to_z-of_z f, c.word-to-int.ensures)
+returns-in-3 c =
+    let f : SFits w64 c.word_to_int.result = search rules in
+    rw (c.in-3.is, to_z-of_z f, c.word_to_int.ensures)
 
-returns-4 : tie.Need-returns-4
+returns-in-4 : tie.Need-returns-in-4
 unfolding literal_of
-returns-4 c = rw (c.before.match.keys4, c.word-to-float.ensures)
+returns-in-4 c = rw (c.in-4.is, c.word_to_float.ensures)
 
-returns-5 : tie.Need-returns-5
+returns-in-5 : tie.Need-returns-in-5
 unfolding literal_of
-returns-5 c = rw (c.before.match.keys5, c.low.ensures)
+returns-in-5 c = rw (c.in-5.is, c.low.ensures)
 
-returns-6 : tie.Need-returns-6
+returns-in-6 : tie.Need-returns-in-6
 unfolding literal_of
-returns-6 c = rw (c.before.before.match.keys6, c.before.start_of_lem.ensures, c.length-of.ensures)
+returns-in-6 c = rw (c.in-6.is, c.start_of.ensures, c.length_of.ensures)
 
-returns-7 : tie.Need-returns-7
+returns-in-7 : tie.Need-returns-in-7
 unfolding literal_of
-returns-7 c = rw (c.before.before.match.keys7, c.before.start-of2.ensures, c.length-of2.ensures)
+returns-in-7 c = rw (c.in-7.is, c.start_of-in-7.ensures, c.length_of-in-7.ensures)
 
-returns-8 : tie.Need-returns-8
+returns-in_default : tie.Need-returns-in_default
 unfolding literal_of
-returns-8 c =
-    let none = c.match.rest in
+returns-in_default c =
+    let none = c.in_default.in_default-own.rest in
     rw (ne_eqb _ _ none.0.0.0.0.0.0.1, ne_eqb _ _ none.0.0.0.0.0.1, ne_eqb _ _ none.0.0.0.0.1, ne_eqb _ _ none.0.0.0.1, ne_eqb _ _ none.0.0.1, ne_eqb _ _ none.0.1, ne_eqb _ _ none.1)
 
 pub literal_of_spec : {M : Type 1} → statement M
 literal_of_spec =
     tie.close
     (tie.spec
-    word-to-int-requires
-    word-to-float-requires
+    word_to_int-requires
+    word_to_float-requires
     low-requires
-    start-of-requires
-    length-of-requires
-    start-of-requires-2
-    length-of-requires-2
-    returns
-    returns-2
-    returns-3
-    returns-4
-    returns-5
-    returns-6
-    returns-7
-    returns-8)
+    start_of-requires
+    length_of-requires
+    start_of-requires-in-7
+    length_of-requires-in-7
+    returns-in-1
+    returns-in-2
+    returns-in-3
+    returns-in-4
+    returns-in-5
+    returns-in-6
+    returns-in-7
+    returns-in_default)

@@ -12,46 +12,46 @@ use Rattle.slots.proofs.put_slot.Reads as reads
 use Rattle.slots.proofs.put_slot.Lts as lts
 use Rattle.slots.proofs.slot_of.Reads as slot-of-reads
 
-slot-of-requires : tie.Need-slot-of-requires
-slot-of-requires c κs = search rules
+slot_of-slot-requires : tie.Need-slot_of-slot-requires
+slot_of-slot-requires c κs = search rules
 
-mul_words : tie.Need-overflow-mul-words
-mul_words c = search rules
+offset_bounds-words-at : tie.Need-offset_bounds-words-at
+offset_bounds-words-at c = search rules
 
-slice-write-words : tie.Need-slice-write-words
-slice-write-words c = search rules
+bounds-words-at : tie.Need-bounds-words-at
+bounds-words-at c = search rules
 
-add_words : tie.Need-overflow-add-words
-add_words c = search rules
+overflow_add-words : tie.Need-overflow_add-words
+overflow_add-words c = search rules
 
-mul-words-2 : tie.Need-overflow-mul-words-2
-mul-words-2 c = search rules
+offset_bounds-words-at-2 : tie.Need-offset_bounds-words-at-2
+offset_bounds-words-at-2 c = search rules
 
-slice-write-words-2 : tie.Need-slice-write-words-2
-slice-write-words-2 c = omega (arith, length-set c.before.before.args.words.now c.before.before.args.at c.slot_of.result.payload)
+bounds-words-at-2 : tie.Need-bounds-words-at-2
+bounds-words-at-2 c = omega (arith, length-set c.args.words.now c.args.at c.slot_of-slot.result.payload)
 
-same_length : tie.Need-same-length
-same_length c = search rules
+shape_of-words : tie.Need-shape_of-words
+shape_of-words c = search rules
 
 returns : tie.Need-returns
 returns c =
-    let v = c.before.before.args.v in
+    let v = c.args.v in
     record {
       stored =
-          rw (ap (λ (s : Slot). s.payload) c.slot_of.ensures.0, ap (λ (s : Slot). s.kind) c.slot_of.ensures.0)
-          (stores_2 c.before.before.args.words.now c.before.before.args.at (slot_of v).payload (slot_of v).kind);
-      back = c.slot_of.ensures.1;
+          rw (ap (λ (s : Slot). s.payload) c.slot_of-slot.ensures.0, ap (λ (s : Slot). s.kind) c.slot_of-slot.ensures.0)
+          (stores_2 c.args.words.now c.args.at (slot_of v).payload (slot_of v).kind);
+      back = c.slot_of-slot.ensures.1;
     }
 
 pub put_slot_spec : {M : Type 1} → statement M
 put_slot_spec =
     tie.close
     (tie.spec
-    slot-of-requires
-    mul_words
-    slice-write-words
-    add_words
-    mul-words-2
-    slice-write-words-2
-    same_length
+    slot_of-slot-requires
+    offset_bounds-words-at
+    bounds-words-at
+    overflow_add-words
+    offset_bounds-words-at-2
+    bounds-words-at-2
+    shape_of-words
     returns)

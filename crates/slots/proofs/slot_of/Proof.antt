@@ -11,143 +11,143 @@ use borrow.Author.Rules.{rules}
 use Rattle.slots.proofs.slot_of.Statement.{statement}
 use Rattle.slots.proofs.slot_of.Tie as tie
 
-enum_told : tie.Need-enum-told
-enum_told c = search rules
+enum_told-1 : tie.Need-enum_told-1
+enum_told-1 c = search rules
 
-enum-known-v : tie.Need-enum-known-v
-enum-known-v c = search rules
+enum_known-v : tie.Need-enum_known-v
+enum_known-v c = search rules
 
-cast-t15 : tie.Need-overflow-cast-t15
-cast-t15 c = search rules
+overflow_cast-result : tie.Need-overflow_cast-result
+overflow_cast-result c = search rules
 
-enum-known-v-2 : tie.Need-enum-known-v-2
-enum-known-v-2 c = search rules
+enum_known-v-in-Unsigned-1 : tie.Need-enum_known-v-in-Unsigned-1
+enum_known-v-in-Unsigned-1 c = search rules
 
-enum-known-v-3 : tie.Need-enum-known-v-3
-enum-known-v-3 c = search rules
+enum_known-v-in-Signed-1 : tie.Need-enum_known-v-in-Signed-1
+enum_known-v-in-Signed-1 c = search rules
 
-int-to-word-requires : tie.Need-int-to-word-requires
-int-to-word-requires c κs = search rules
+int_to_word-requires : tie.Need-int_to_word-requires
+int_to_word-requires c κs = search rules
 
-enum-known-v-4 : tie.Need-enum-known-v-4
-enum-known-v-4 c = search rules
+enum_known-v-in-Float-1 : tie.Need-enum_known-v-in-Float-1
+enum_known-v-in-Float-1 c = search rules
 
-float-to-word-requires : tie.Need-float-to-word-requires
-float-to-word-requires c κs = search rules
+float_to_word-requires : tie.Need-float_to_word-requires
+float_to_word-requires c κs = search rules
 
-enum-known-v-5 : tie.Need-enum-known-v-5
-enum-known-v-5 c = search rules
+enum_known-v-in-Char-1 : tie.Need-enum_known-v-in-Char-1
+enum_known-v-in-Char-1 c = search rules
 
-cast-t18 : tie.Need-overflow-cast-t18
-cast-t18 c = search rules
+overflow_cast-result-in-Char : tie.Need-overflow_cast-result-in-Char
+overflow_cast-result-in-Char c = search rules
 
-enum-known-v-6 : tie.Need-enum-known-v-6
-enum-known-v-6 c = search rules
+enum_known-v-in-Text-1 : tie.Need-enum_known-v-in-Text-1
+enum_known-v-in-Text-1 c = search rules
 
 part-requires : tie.Need-part-requires
 part-requires c κs = search rules
 
-enum-known-v-7 : tie.Need-enum-known-v-7
-enum-known-v-7 c = search rules
+enum_known-v-in-Bytes-1 : tie.Need-enum_known-v-in-Bytes-1
+enum_known-v-in-Bytes-1 c = search rules
 
-part-requires-2 : tie.Need-part-requires-2
-part-requires-2 c κs = search rules
+part-requires-in-Bytes : tie.Need-part-requires-in-Bytes
+part-requires-in-Bytes c κs = search rules
 
-enum-known-v-8 : tie.Need-enum-known-v-8
-enum-known-v-8 c = search rules
+enum_known-v-in-Vec-1 : tie.Need-enum_known-v-in-Vec-1
+enum_known-v-in-Vec-1 c = search rules
 
-cast-t21 : tie.Need-overflow-cast-t21
-cast-t21 c = search rules
+overflow_cast-result-in-Vec : tie.Need-overflow_cast-result-in-Vec
+overflow_cast-result-in-Vec c = search rules
 
-enum-known-v-9 : tie.Need-enum-known-v-9
-enum-known-v-9 c = search rules
+enum_known-v-in-Tuple-1 : tie.Need-enum_known-v-in-Tuple-1
+enum_known-v-in-Tuple-1 c = search rules
 
-cast-t22 : tie.Need-overflow-cast-t22
-cast-t22 c = search rules
+overflow_cast-result-in-Tuple : tie.Need-overflow_cast-result-in-Tuple
+overflow_cast-result-in-Tuple c = search rules
 
-enum-known-v-10 : tie.Need-enum-known-v-10
-enum-known-v-10 c = search rules
+enum_known-v-in-Object-1 : tie.Need-enum_known-v-in-Object-1
+enum_known-v-in-Object-1 c = search rules
 
-cast-t23 : tie.Need-overflow-cast-t23
-cast-t23 c = search rules
+overflow_cast-result-in-Object : tie.Need-overflow_cast-result-in-Object
+overflow_cast-result-in-Object c = search rules
 
-returns : tie.Need-returns
+returns-in-Unit : tie.Need-returns-in-Unit
 unfolding value_of literal_of
-returns c = rw c.enum_told.given.1 (refl, refl)
+returns-in-Unit c = rw c.in-Unit.is (refl, refl)
 
-returns-2 : tie.Need-returns-2
+returns-in-Bool : tie.Need-returns-in-Bool
 unfolding value_of literal_of
-returns-2 c = rw (c.before.v.given.1, bit_is) (refl, bool_back c.before.v.given.0.0)
+returns-in-Bool c = rw (c.in-Bool.is, bit_is) (refl, bool_back c.in-Bool.b)
 
-returns-3 : tie.Need-returns-3
+returns-in-Unsigned : tie.Need-returns-in-Unsigned
 unfolding value_of literal_of
-returns-3 c = rw c.before.v2.given.1 (refl, refl)
+returns-in-Unsigned c = rw c.in-Unsigned.is (refl, refl)
 
-returns-4 : tie.Need-returns-4
-returns-4 c =
-    let f : SFits w64 c.before.before.v3.given.0.0 = search rules in
-    rw (c.before.before.v3.given.1, c.int-to-word.ensures, to_z-of_z f) (refl, signed_back _ f)
+returns-in-Signed : tie.Need-returns-in-Signed
+returns-in-Signed c =
+    let f : SFits w64 c.in-Signed.x = search rules in
+    rw (c.in-Signed.is, c.int_to_word.ensures, to_z-of_z f) (refl, signed_back _ f)
 
-returns-5 : tie.Need-returns-5
+returns-in-Float : tie.Need-returns-in-Float
 unfolding value_of literal_of
-returns-5 c = rw (c.before.before.v4.given.1, c.float-to-word.ensures) (refl, float_back _ (search rules))
+returns-in-Float c = rw (c.in-Float.is, c.float_to_word.ensures) (refl, float_back _ (search rules))
 
-returns-6 : tie.Need-returns-6
+returns-in-Char : tie.Need-returns-in-Char
 unfolding value_of literal_of
-returns-6 c = rw c.before.v5.given.1 (refl, char_back _ (search rules))
+returns-in-Char c = rw c.in-Char.is (refl, char_back _ (search rules))
 
-returns-7 : tie.Need-returns-7
+returns-in-Text : tie.Need-returns-in-Text
 unfolding value_of literal_of
-returns-7 c = rw (c.before.before.v6.given.1, c.part.ensures) (refl, text_back _ _ (search rules) (search rules))
+returns-in-Text c = rw (c.in-Text.is, c.part.ensures) (refl, text_back _ _ (search rules) (search rules))
 
-returns-8 : tie.Need-returns-8
+returns-in-Bytes : tie.Need-returns-in-Bytes
 unfolding value_of literal_of
-returns-8 c = rw (c.before.before.v7.given.1, c.part2.ensures) (refl, bytes_back _ _ (search rules) (search rules))
+returns-in-Bytes c = rw (c.in-Bytes.is, c.part-in-Bytes.ensures) (refl, bytes_back _ _ (search rules) (search rules))
 
-returns-9 : tie.Need-returns-9
+returns-in-Vec : tie.Need-returns-in-Vec
 unfolding value_of literal_of
-returns-9 c = rw c.before.v8.given.1 (refl, handle_back 8 _ Vec (search rules) refl)
+returns-in-Vec c = rw c.in-Vec.is (refl, handle_back 8 _ Vec (search rules) refl)
 
-returns-10 : tie.Need-returns-10
+returns-in-Tuple : tie.Need-returns-in-Tuple
 unfolding value_of literal_of
-returns-10 c = rw c.before.v9.given.1 (refl, handle_back 9 _ Tuple (search rules) refl)
+returns-in-Tuple c = rw c.in-Tuple.is (refl, handle_back 9 _ Tuple (search rules) refl)
 
-returns-11 : tie.Need-returns-11
+returns-in-Object : tie.Need-returns-in-Object
 unfolding value_of literal_of
-returns-11 c = rw c.before.v10.given.1 (refl, handle_back 10 _ Object (search rules) refl)
+returns-in-Object c = rw c.in-Object.is (refl, handle_back 10 _ Object (search rules) refl)
 
 pub slot_of_spec : {M : Type 1} → statement M
 slot_of_spec =
     tie.close
     (tie.spec
-    enum_told
-    enum-known-v
-    cast-t15
-    enum-known-v-2
-    enum-known-v-3
-    int-to-word-requires
-    enum-known-v-4
-    float-to-word-requires
-    enum-known-v-5
-    cast-t18
-    enum-known-v-6
+    enum_told-1
+    enum_known-v
+    overflow_cast-result
+    enum_known-v-in-Unsigned-1
+    enum_known-v-in-Signed-1
+    int_to_word-requires
+    enum_known-v-in-Float-1
+    float_to_word-requires
+    enum_known-v-in-Char-1
+    overflow_cast-result-in-Char
+    enum_known-v-in-Text-1
     part-requires
-    enum-known-v-7
-    part-requires-2
-    enum-known-v-8
-    cast-t21
-    enum-known-v-9
-    cast-t22
-    enum-known-v-10
-    cast-t23
-    returns
-    returns-2
-    returns-3
-    returns-4
-    returns-5
-    returns-6
-    returns-7
-    returns-8
-    returns-9
-    returns-10
-    returns-11)
+    enum_known-v-in-Bytes-1
+    part-requires-in-Bytes
+    enum_known-v-in-Vec-1
+    overflow_cast-result-in-Vec
+    enum_known-v-in-Tuple-1
+    overflow_cast-result-in-Tuple
+    enum_known-v-in-Object-1
+    overflow_cast-result-in-Object
+    returns-in-Unit
+    returns-in-Bool
+    returns-in-Unsigned
+    returns-in-Signed
+    returns-in-Float
+    returns-in-Char
+    returns-in-Text
+    returns-in-Bytes
+    returns-in-Vec
+    returns-in-Tuple
+    returns-in-Object)

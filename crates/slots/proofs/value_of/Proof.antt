@@ -12,40 +12,40 @@ use Rattle.slots.proofs.low.Reads as low_reads
 low-requires : tie.Need-low-requires
 low-requires c κs = search rules
 
-low-requires-2 : tie.Need-low-requires-2
-low-requires-2 c κs = search rules
+low-requires-in-9 : tie.Need-low-requires-in-9
+low-requires-in-9 c κs = search rules
 
-low-requires-3 : tie.Need-low-requires-3
-low-requires-3 c κs = search rules
+low-requires-in-10 : tie.Need-low-requires-in-10
+low-requires-in-10 c κs = search rules
 
-literal-of-requires : tie.Need-literal-of-requires
-literal-of-requires c κs = search rules
+literal_of-requires : tie.Need-literal_of-requires
+literal_of-requires c κs = search rules
 
-returns : tie.Need-returns
+returns-in-8 : tie.Need-returns-in-8
 unfolding value_of
-returns c = rw (c.before.match.keys1, c.low.ensures)
+returns-in-8 c = rw (c.in-8.is, c.low.ensures)
 
-returns-2 : tie.Need-returns-2
+returns-in-9 : tie.Need-returns-in-9
 unfolding value_of
-returns-2 c = rw (c.before.match.keys2, c.low2.ensures)
+returns-in-9 c = rw (c.in-9.is, c.low-in-9.ensures)
 
-returns-3 : tie.Need-returns-3
+returns-in-10 : tie.Need-returns-in-10
 unfolding value_of
-returns-3 c = rw (c.before.match.keys3, c.low3.ensures)
+returns-in-10 c = rw (c.in-10.is, c.low-in-10.ensures)
 
-returns-4 : tie.Need-returns-4
+returns-in_default : tie.Need-returns-in_default
 unfolding value_of
-returns-4 c = rw (ne_eqb _ _ (c.before.match.rest.0.0.1), ne_eqb _ _ (c.before.match.rest.0.1), ne_eqb _ _ (c.before.match.rest.1), c.literal-of.ensures)
+returns-in_default c = rw (ne_eqb _ _ (c.in_default.in_default-own.rest.0.0.1), ne_eqb _ _ (c.in_default.in_default-own.rest.0.1), ne_eqb _ _ (c.in_default.in_default-own.rest.1), c.literal_of.ensures)
 
 pub value_of_spec : {M : Type 1} → statement M
 value_of_spec =
     tie.close
     (tie.spec
     low-requires
-    low-requires-2
-    low-requires-3
-    literal-of-requires
-    returns
-    returns-2
-    returns-3
-    returns-4)
+    low-requires-in-9
+    low-requires-in-10
+    literal_of-requires
+    returns-in-8
+    returns-in-9
+    returns-in-10
+    returns-in_default)

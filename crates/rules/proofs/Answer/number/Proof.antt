@@ -3,51 +3,51 @@ use borrow.Author.Rules.{rules}
 use Rattle.rules.proofs.Answer.number.Statement.{statement}
 use Rattle.rules.proofs.Answer.number.Tie as tie
 
-enum_told : tie.Need-enum-told
-enum_told c = search rules
+enum_told-1 : tie.Need-enum_told-1
+enum_told-1 c = search rules
 
-enum-known-self : tie.Need-enum-known-self
-enum-known-self c = search rules
+enum_known-self : tie.Need-enum_known-self
+enum_known-self c = search rules
 
 number-requires : tie.Need-number-requires
 number-requires c κs = search rules
 
-enum-told-2 : tie.Need-enum-told-2
-enum-told-2 c = search rules
+enum_told-in-Spent : tie.Need-enum_told-in-Spent
+enum_told-in-Spent c = search rules
 
-enum-known-self-2 : tie.Need-enum-known-self-2
-enum-known-self-2 c = search rules
+enum_known-self-in-NotLoaded-1 : tie.Need-enum_known-self-in-NotLoaded-1
+enum_known-self-in-NotLoaded-1 c = search rules
 
-enum-told-3 : tie.Need-enum-told-3
-enum-told-3 c = search rules
+enum_told-in-StoreTooShort : tie.Need-enum_told-in-StoreTooShort
+enum_told-in-StoreTooShort c = search rules
 
-returns : tie.Need-returns
-returns c = search rules
+returns-in-Value : tie.Need-returns-in-Value
+returns-in-Value c = search rules
 
-returns-2 : tie.Need-returns-2
-returns-2 c = rw c.before.before.self.given.1 c.number.ensures
+returns-in-Refused : tie.Need-returns-in-Refused
+returns-in-Refused c = rw c.in-Refused.is c.number.ensures
 
-returns-3 : tie.Need-returns-3
-returns-3 c = search rules
+returns-in-Spent : tie.Need-returns-in-Spent
+returns-in-Spent c = search rules
 
-returns-4 : tie.Need-returns-4
-returns-4 c = search rules
+returns-in-NotLoaded : tie.Need-returns-in-NotLoaded
+returns-in-NotLoaded c = search rules
 
-returns-5 : tie.Need-returns-5
-returns-5 c = search rules
+returns-in-StoreTooShort : tie.Need-returns-in-StoreTooShort
+returns-in-StoreTooShort c = search rules
 
 pub number_spec : {M : Type 1} → statement M
 number_spec =
     tie.close
     (tie.spec
-    enum_told
-    enum-known-self
+    enum_told-1
+    enum_known-self
     number-requires
-    enum-told-2
-    enum-known-self-2
-    enum-told-3
-    returns
-    returns-2
-    returns-3
-    returns-4
-    returns-5)
+    enum_told-in-Spent
+    enum_known-self-in-NotLoaded-1
+    enum_told-in-StoreTooShort
+    returns-in-Value
+    returns-in-Refused
+    returns-in-Spent
+    returns-in-NotLoaded
+    returns-in-StoreTooShort)

@@ -3,47 +3,47 @@ use borrow.Author.Rules.{rules}
 use Rattle.rules.proofs.Answer.steps.Statement.{statement}
 use Rattle.rules.proofs.Answer.steps.Tie as tie
 
-enum-known-self : tie.Need-enum-known-self
-enum-known-self c = search rules
+enum_known-self : tie.Need-enum_known-self
+enum_known-self c = search rules
 
-enum-known-self-2 : tie.Need-enum-known-self-2
-enum-known-self-2 c = search rules
+enum_known-self-in-Refused-1 : tie.Need-enum_known-self-in-Refused-1
+enum_known-self-in-Refused-1 c = search rules
 
-enum-known-self-3 : tie.Need-enum-known-self-3
-enum-known-self-3 c = search rules
+enum_known-self-in-Spent-1 : tie.Need-enum_known-self-in-Spent-1
+enum_known-self-in-Spent-1 c = search rules
 
-enum_told : tie.Need-enum-told
-enum_told c = search rules
+enum_told-1 : tie.Need-enum_told-1
+enum_told-1 c = search rules
 
-enum-told-2 : tie.Need-enum-told-2
-enum-told-2 c = search rules
+enum_told-in-StoreTooShort : tie.Need-enum_told-in-StoreTooShort
+enum_told-in-StoreTooShort c = search rules
 
-returns : tie.Need-returns
-returns c = search rules
+returns-in-Value : tie.Need-returns-in-Value
+returns-in-Value c = search rules
 
-returns-2 : tie.Need-returns-2
-returns-2 c = rw c.before.self2.given.1
+returns-in-Refused : tie.Need-returns-in-Refused
+returns-in-Refused c = rw c.in-Refused.is
 
-returns-3 : tie.Need-returns-3
-returns-3 c = search rules
+returns-in-Spent : tie.Need-returns-in-Spent
+returns-in-Spent c = search rules
 
-returns-4 : tie.Need-returns-4
-returns-4 c = search rules
+returns-in-NotLoaded : tie.Need-returns-in-NotLoaded
+returns-in-NotLoaded c = search rules
 
-returns-5 : tie.Need-returns-5
-returns-5 c = search rules
+returns-in-StoreTooShort : tie.Need-returns-in-StoreTooShort
+returns-in-StoreTooShort c = search rules
 
 pub steps_spec : {M : Type 1} → statement M
 steps_spec =
     tie.close
     (tie.spec
-    enum-known-self
-    enum-known-self-2
-    enum-known-self-3
-    enum_told
-    enum-told-2
-    returns
-    returns-2
-    returns-3
-    returns-4
-    returns-5)
+    enum_known-self
+    enum_known-self-in-Refused-1
+    enum_known-self-in-Spent-1
+    enum_told-1
+    enum_told-in-StoreTooShort
+    returns-in-Value
+    returns-in-Refused
+    returns-in-Spent
+    returns-in-NotLoaded
+    returns-in-StoreTooShort)

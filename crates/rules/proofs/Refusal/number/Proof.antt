@@ -3,179 +3,179 @@ use borrow.Author.Rules.{rules}
 use Rattle.rules.proofs.Refusal.number.Statement.{statement}
 use Rattle.rules.proofs.Refusal.number.Tie as tie
 
-enum_told : tie.Need-enum-told
-enum_told c = search rules
+enum_told-1 : tie.Need-enum_told-1
+enum_told-1 c = search rules
 
-enum-told-2 : tie.Need-enum-told-2
-enum-told-2 c = search rules
+enum_told-in-Cells : tie.Need-enum_told-in-Cells
+enum_told-in-Cells c = search rules
 
-enum-told-3 : tie.Need-enum-told-3
-enum-told-3 c = search rules
+enum_told-in-TextBytes : tie.Need-enum_told-in-TextBytes
+enum_told-in-TextBytes c = search rules
 
-enum-told-4 : tie.Need-enum-told-4
-enum-told-4 c = search rules
+enum_told-in-Bindings : tie.Need-enum_told-in-Bindings
+enum_told-in-Bindings c = search rules
 
-enum-told-5 : tie.Need-enum-told-5
-enum-told-5 c = search rules
+enum_told-in-Pending : tie.Need-enum_told-in-Pending
+enum_told-in-Pending c = search rules
 
-enum-told-6 : tie.Need-enum-told-6
-enum-told-6 c = search rules
+enum_told-in-NotConst : tie.Need-enum_told-in-NotConst
+enum_told-in-NotConst c = search rules
 
-enum-told-7 : tie.Need-enum-told-7
-enum-told-7 c = search rules
+enum_told-in-BreakOutside : tie.Need-enum_told-in-BreakOutside
+enum_told-in-BreakOutside c = search rules
 
-enum-told-8 : tie.Need-enum-told-8
-enum-told-8 c = search rules
+enum_told-in-BreakWithValue : tie.Need-enum_told-in-BreakWithValue
+enum_told-in-BreakWithValue c = search rules
 
-enum-told-9 : tie.Need-enum-told-9
-enum-told-9 c = search rules
+enum_told-in-NotBool : tie.Need-enum_told-in-NotBool
+enum_told-in-NotBool c = search rules
 
-enum-known-self : tie.Need-enum-known-self
-enum-known-self c = search rules
+enum_known-self : tie.Need-enum_known-self
+enum_known-self c = search rules
 
-enum-told-10 : tie.Need-enum-told-10
-enum-told-10 c = search rules
+enum_told-in-Overflow : tie.Need-enum_told-in-Overflow
+enum_told-in-Overflow c = search rules
 
-enum-told-11 : tie.Need-enum-told-11
-enum-told-11 c = search rules
+enum_told-in-Division : tie.Need-enum_told-in-Division
+enum_told-in-Division c = search rules
 
-enum-told-12 : tie.Need-enum-told-12
-enum-told-12 c = search rules
+enum_told-in-ShiftOperand : tie.Need-enum_told-in-ShiftOperand
+enum_told-in-ShiftOperand c = search rules
 
-enum-told-13 : tie.Need-enum-told-13
-enum-told-13 c = search rules
+enum_told-in-Operands : tie.Need-enum_told-in-Operands
+enum_told-in-Operands c = search rules
 
-enum-told-14 : tie.Need-enum-told-14
-enum-told-14 c = search rules
+enum_told-in-MissingName : tie.Need-enum_told-in-MissingName
+enum_told-in-MissingName c = search rules
 
-enum-told-15 : tie.Need-enum-told-15
-enum-told-15 c = search rules
+enum_told-in-MissingField : tie.Need-enum_told-in-MissingField
+enum_told-in-MissingField c = search rules
 
-enum-told-16 : tie.Need-enum-told-16
-enum-told-16 c = search rules
+enum_told-in-MissingIndex : tie.Need-enum_told-in-MissingIndex
+enum_told-in-MissingIndex c = search rules
 
-enum-told-17 : tie.Need-enum-told-17
-enum-told-17 c = search rules
+enum_told-in-ExpectedType : tie.Need-enum_told-in-ExpectedType
+enum_told-in-ExpectedType c = search rules
 
-enum-told-18 : tie.Need-enum-told-18
-enum-told-18 c = search rules
+enum_told-in-ArgumentCount : tie.Need-enum_told-in-ArgumentCount
+enum_told-in-ArgumentCount c = search rules
 
-enum-told-19 : tie.Need-enum-told-19
-enum-told-19 c = search rules
+enum_told-in-FloatInTemplate : tie.Need-enum_told-in-FloatInTemplate
+enum_told-in-FloatInTemplate c = search rules
 
-enum-told-20 : tie.Need-enum-told-20
-enum-told-20 c = search rules
+enum_told-in-Nesting : tie.Need-enum_told-in-Nesting
+enum_told-in-Nesting c = search rules
 
-enum-told-21 : tie.Need-enum-told-21
-enum-told-21 c = search rules
+enum_told-in-Room : tie.Need-enum_told-in-Room
+enum_told-in-Room c = search rules
 
-returns : tie.Need-returns
-returns c = rw c.enum_told.given.1
+returns-in-Depth : tie.Need-returns-in-Depth
+returns-in-Depth c = rw c.in-Depth.is
 
-returns-2 : tie.Need-returns-2
-returns-2 c = rw c.enum-told2.given.1
+returns-in-Cells : tie.Need-returns-in-Cells
+returns-in-Cells c = rw c.in-Cells.is
 
-returns-3 : tie.Need-returns-3
-returns-3 c = rw c.enum-told3.given.1
+returns-in-TextBytes : tie.Need-returns-in-TextBytes
+returns-in-TextBytes c = rw c.in-TextBytes.is
 
-returns-4 : tie.Need-returns-4
-returns-4 c = rw c.enum-told4.given.1
+returns-in-Bindings : tie.Need-returns-in-Bindings
+returns-in-Bindings c = rw c.in-Bindings.is
 
-returns-5 : tie.Need-returns-5
-returns-5 c = rw c.enum-told5.given.1
+returns-in-Pending : tie.Need-returns-in-Pending
+returns-in-Pending c = rw c.in-Pending.is
 
-returns-6 : tie.Need-returns-6
-returns-6 c = rw c.enum-told6.given.1
+returns-in-NotConst : tie.Need-returns-in-NotConst
+returns-in-NotConst c = rw c.in-NotConst.is
 
-returns-7 : tie.Need-returns-7
-returns-7 c = rw c.enum-told7.given.1
+returns-in-BreakOutside : tie.Need-returns-in-BreakOutside
+returns-in-BreakOutside c = rw c.in-BreakOutside.is
 
-returns-8 : tie.Need-returns-8
-returns-8 c = rw c.enum-told8.given.1
+returns-in-BreakWithValue : tie.Need-returns-in-BreakWithValue
+returns-in-BreakWithValue c = rw c.in-BreakWithValue.is
 
-returns-9 : tie.Need-returns-9
-returns-9 c = rw c.enum-told9.given.1
+returns-in-NotBool : tie.Need-returns-in-NotBool
+returns-in-NotBool c = rw c.in-NotBool.is
 
-returns-10 : tie.Need-returns-10
-returns-10 c = rw (c.before.before.before.self.given.1, c.enum-told10.given.1)
+returns-in-Overflow : tie.Need-returns-in-Overflow
+returns-in-Overflow c = rw (c.in-Arithmetic.is, c.in-Overflow.is)
 
-returns-11 : tie.Need-returns-11
-returns-11 c = rw (c.before.before.before.self.given.1, c.enum-told11.given.1)
+returns-in-Division : tie.Need-returns-in-Division
+returns-in-Division c = rw (c.in-Arithmetic.is, c.in-Division.is)
 
-returns-12 : tie.Need-returns-12
-returns-12 c = rw (c.before.before.before.self.given.1, c.enum-told12.given.1)
+returns-in-ShiftOperand : tie.Need-returns-in-ShiftOperand
+returns-in-ShiftOperand c = rw (c.in-Arithmetic.is, c.in-ShiftOperand.is)
 
-returns-13 : tie.Need-returns-13
-returns-13 c = rw c.enum-told13.given.1
+returns-in-Operands : tie.Need-returns-in-Operands
+returns-in-Operands c = rw c.in-Operands.is
 
-returns-14 : tie.Need-returns-14
-returns-14 c = rw c.enum-told14.given.1
+returns-in-MissingName : tie.Need-returns-in-MissingName
+returns-in-MissingName c = rw c.in-MissingName.is
 
-returns-15 : tie.Need-returns-15
-returns-15 c = rw c.enum-told15.given.1
+returns-in-MissingField : tie.Need-returns-in-MissingField
+returns-in-MissingField c = rw c.in-MissingField.is
 
-returns-16 : tie.Need-returns-16
-returns-16 c = rw c.enum-told16.given.1
+returns-in-MissingIndex : tie.Need-returns-in-MissingIndex
+returns-in-MissingIndex c = rw c.in-MissingIndex.is
 
-returns-17 : tie.Need-returns-17
-returns-17 c = rw c.enum-told17.given.1
+returns-in-ExpectedType : tie.Need-returns-in-ExpectedType
+returns-in-ExpectedType c = rw c.in-ExpectedType.is
 
-returns-18 : tie.Need-returns-18
-returns-18 c = rw c.enum-told18.given.1
+returns-in-ArgumentCount : tie.Need-returns-in-ArgumentCount
+returns-in-ArgumentCount c = rw c.in-ArgumentCount.is
 
-returns-19 : tie.Need-returns-19
-returns-19 c = rw c.enum-told19.given.1
+returns-in-FloatInTemplate : tie.Need-returns-in-FloatInTemplate
+returns-in-FloatInTemplate c = rw c.in-FloatInTemplate.is
 
-returns-20 : tie.Need-returns-20
-returns-20 c = rw c.enum-told20.given.1
+returns-in-Nesting : tie.Need-returns-in-Nesting
+returns-in-Nesting c = rw c.in-Nesting.is
 
-returns-21 : tie.Need-returns-21
-returns-21 c = rw c.enum-told21.given.1
+returns-in-Room : tie.Need-returns-in-Room
+returns-in-Room c = rw c.in-Room.is
 
 pub number_spec : {M : Type 1} → statement M
 number_spec =
     tie.close
     (tie.spec
-    enum_told
-    enum-told-2
-    enum-told-3
-    enum-told-4
-    enum-told-5
-    enum-told-6
-    enum-told-7
-    enum-told-8
-    enum-told-9
-    enum-known-self
-    enum-told-10
-    enum-told-11
-    enum-told-12
-    enum-told-13
-    enum-told-14
-    enum-told-15
-    enum-told-16
-    enum-told-17
-    enum-told-18
-    enum-told-19
-    enum-told-20
-    enum-told-21
-    returns
-    returns-2
-    returns-3
-    returns-4
-    returns-5
-    returns-6
-    returns-7
-    returns-8
-    returns-9
-    returns-10
-    returns-11
-    returns-12
-    returns-13
-    returns-14
-    returns-15
-    returns-16
-    returns-17
-    returns-18
-    returns-19
-    returns-20
-    returns-21)
+    enum_told-1
+    enum_told-in-Cells
+    enum_told-in-TextBytes
+    enum_told-in-Bindings
+    enum_told-in-Pending
+    enum_told-in-NotConst
+    enum_told-in-BreakOutside
+    enum_told-in-BreakWithValue
+    enum_told-in-NotBool
+    enum_known-self
+    enum_told-in-Overflow
+    enum_told-in-Division
+    enum_told-in-ShiftOperand
+    enum_told-in-Operands
+    enum_told-in-MissingName
+    enum_told-in-MissingField
+    enum_told-in-MissingIndex
+    enum_told-in-ExpectedType
+    enum_told-in-ArgumentCount
+    enum_told-in-FloatInTemplate
+    enum_told-in-Nesting
+    enum_told-in-Room
+    returns-in-Depth
+    returns-in-Cells
+    returns-in-TextBytes
+    returns-in-Bindings
+    returns-in-Pending
+    returns-in-NotConst
+    returns-in-BreakOutside
+    returns-in-BreakWithValue
+    returns-in-NotBool
+    returns-in-Overflow
+    returns-in-Division
+    returns-in-ShiftOperand
+    returns-in-Operands
+    returns-in-MissingName
+    returns-in-MissingField
+    returns-in-MissingIndex
+    returns-in-ExpectedType
+    returns-in-ArgumentCount
+    returns-in-FloatInTemplate
+    returns-in-Nesting
+    returns-in-Room)

@@ -5,11 +5,11 @@ use borrow.Author.Rules.{rules}
 use Rattle.slots.proofs.literals.key_of.Statement.{statement}
 use Rattle.slots.proofs.literals.key_of.Tie as tie
 
-literal-at-requires : tie.Need-literal-at-requires
-literal-at-requires c κs = search rules
+literal_at-text-requires : tie.Need-literal_at-text-requires
+literal_at-text-requires c κs = search rules
 
 returns : tie.Need-returns
-returns c = ap (λ (l : Literal). l.payload) c.literal-at.ensures
+returns c = ap (λ (l : Literal). l.payload) c.literal_at-text.ensures
 
 pub key_of_spec : {M : Type 1} → statement M
-key_of_spec = tie.close (tie.spec literal-at-requires returns)
+key_of_spec = tie.close (tie.spec literal_at-text-requires returns)

@@ -5,17 +5,17 @@ use borrow.Author.Rules.{rules}
 use Rattle.stores.proofs.pending.drop_pending.Statement.{statement}
 use Rattle.stores.proofs.pending.drop_pending.Tie as tie
 
-element-copy-out-if1 : tie.Need-element-copy-out-if1
-element-copy-out-if1 c = search rules
+bounds-run-4 : tie.Need-bounds-run-4
+bounds-run-4 c = search rules
 
-element-write-run : tie.Need-element-write-run
-element-write-run c = search rules
+bounds-run-4-then-count-run : tie.Need-bounds-run-4-then-count-run
+bounds-run-4-then-count-run c = search rules
 
-returns : tie.Need-returns
-returns c = fewer pending_counted _ _ (le_of_lt c.if1.true)
+returns-then-count-run : tie.Need-returns-then-count-run
+returns-then-count-run c = fewer pending_counted _ _ (le_of_lt c.if-count-run.true)
 
-returns-2 : tie.Need-returns-2
-returns-2 c = enough pending_counted _ _ c.if1.false
+returns-else-count-run : tie.Need-returns-else-count-run
+returns-else-count-run c = enough pending_counted _ _ c.if-count-run.false
 
 pub drop_pending_spec : {M : Type 1} → statement M
-drop_pending_spec = tie.close (tie.spec element-copy-out-if1 element-write-run returns returns-2)
+drop_pending_spec = tie.close (tie.spec bounds-run-4 bounds-run-4-then-count-run returns-then-count-run returns-else-count-run)

@@ -10,40 +10,39 @@ use borrow.Author.Rules.{rules}
 use Rattle.stores.proofs.pending.pending_at.Statement.{statement}
 use Rattle.stores.proofs.pending.pending_at.Tie as tie
 
-mul-value-of : tie.Need-overflow-mul-value-of
-mul-value-of c = search rules
+overflow_mul-i : tie.Need-overflow_mul-i
+overflow_mul-i c = search rules
 
-add-value-of : tie.Need-overflow-add-value-of
-add-value-of c = search rules
+overflow_add-i : tie.Need-overflow_add-i
+overflow_add-i c = search rules
 
-mul-value-of-2 : tie.Need-overflow-mul-value-of-2
-mul-value-of-2 c = search rules
+offset_bounds-words-i : tie.Need-offset_bounds-words-i
+offset_bounds-words-i c = search rules
 
-shared-slice-read-value-of : tie.Need-shared-slice-read-value-of
-shared-slice-read-value-of c = search rules
+bounds-words-i : tie.Need-bounds-words-i
+bounds-words-i c = search rules
 
-mul-value-of-3 : tie.Need-overflow-mul-value-of-3
-mul-value-of-3 c = search rules
+overflow_mul-i-2 : tie.Need-overflow_mul-i-2
+overflow_mul-i-2 c = search rules
 
-add-value-of-2 : tie.Need-overflow-add-value-of-2
-add-value-of-2 c = search rules
+overflow_add-i-2 : tie.Need-overflow_add-i-2
+overflow_add-i-2 c = search rules
 
-mul-value-of-4 : tie.Need-overflow-mul-value-of-4
-mul-value-of-4 c = search rules
+offset_bounds-words-i-2 : tie.Need-offset_bounds-words-i-2
+offset_bounds-words-i-2 c = search rules
 
-shared-slice-read-value-of-2 : tie.Need-shared-slice-read-value-of-2
-shared-slice-read-value-of-2 c = search rules
+bounds-words-i-2 : tie.Need-bounds-words-i-2
+bounds-words-i-2 c = search rules
 
-value-of-requires : tie.Need-value-of-requires
-value-of-requires c κs = search rules
+value_of-requires : tie.Need-value_of-requires
+value_of-requires c κs = search rules
 
 returns : tie.Need-returns
 unfolding pending_in
 returns c =
-    let start = c.before.before.before.before in
-    let l = start.args.words.now in
-    let i = start.args.i in
-    c.value_of_lem.ensures
+    let l = c.args.words.now in
+    let i = c.args.i in
+    c.value_of.ensures
     ∙ ap₂ value_of
     (ap (λ (k : ℕ). get_or l k 0) (omega arith) ∙ sym (rec_word 768 2 i 1 l (omega arith)))
     (ap (λ (k : ℕ). get_or l k 0) (omega arith) ∙ sym (rec_word 768 2 i 0 l (omega arith)))
@@ -52,13 +51,13 @@ pub pending_at_spec : {M : Type 1} → statement M
 pending_at_spec =
     tie.close
     (tie.spec
-    mul-value-of
-    add-value-of
-    mul-value-of-2
-    shared-slice-read-value-of
-    mul-value-of-3
-    add-value-of-2
-    mul-value-of-4
-    shared-slice-read-value-of-2
-    value-of-requires
+    overflow_mul-i
+    overflow_add-i
+    offset_bounds-words-i
+    bounds-words-i
+    overflow_mul-i-2
+    overflow_add-i-2
+    offset_bounds-words-i-2
+    bounds-words-i-2
+    value_of-requires
     returns)
