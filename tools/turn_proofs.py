@@ -17,20 +17,6 @@ def norm(name):
     return re.sub(r"^(overflow|nonzero|bounds|shape-of)-", "", name)
 
 
-def lent(root):
-    """For each function of the repository, by its last name and crate, its parameters that are a &mut."""
-    found = {}
-    for base, dirs, files in os.walk(root):
-        dirs[:] = [d for d in dirs if d != "out"]
-        for f in files:
-            if f.endswith(".rt"):
-                crate = os.path.relpath(base, root).split("/")[0]
-                for m in re.finditer(r"\bfn (\w+)(?:<[^>]*>)?\(([^)]*)\)", open(os.path.join(base, f), encoding="utf-8").read()):
-                    names = [p.split(":")[0].strip() for p in m.group(2).split(",") if re.search(r":\s*&\s*('\w+ )?mut\b", p)]
-                    found[crate + "::" + m.group(1)] = names
-    return found
-
-
 class Place:
     def __init__(self, old, new, base, step, callee, fields, arm):
         self.old, self.new, self.base, self.step, self.callee = old, new, base, step, callee
@@ -38,15 +24,15 @@ class Place:
 
 
 class Names:
-    def __init__(self, j, lent):
-        self.lent, self.last = lent, {}
+    def __init__(self, j):
+        self.params = j["params"]
         self.needs = {norm(o): n for o, n in j["needs"]}
         self.at = {n: old for (_, n), (old, _) in zip(j["needs"], j["asked_at"])}
         self.places = {}
         for (old, base, step, callee, fields), new, arm in zip(j["places"], j["places_by_name"], j["arms"]):
             self.places[norm(old)] = Place(old, new, norm(base) if base else None, step, callee, fields, arm)
         self.loops = {norm(l[0][0]): l[0][1] for l in j["loops"]}
-        self.helpers, self.shifted = {}, set()
+        self.helpers, self.shifted, self.gone = {}, set(), set()
 
     def shift(self, text):
         """Calls that were counted from 2, since the first one's name was taken."""
@@ -63,6 +49,15 @@ class Names:
                 return
             yield p
             place = p.base
+
+    def whole(self, place):
+        """The last place of an arm's, of which alone there is a record now."""
+        p = self.places[norm(place)]
+        if p.arm:
+            for q in self.places.values():
+                if q.arm and q.arm[0] == p.arm[0] and q.arm[1] > p.arm[1]:
+                    p = q
+        return p.old
 
     def depth(self, place, to):
         """How many times 'before' leads from a place to another: an arm is one step."""
@@ -84,6 +79,7 @@ class Names:
         m = re.fullmatch(r"(.*\D)(\d+)", step)
         if m and m.group(1) in self.shifted:
             step = m.group(1) if m.group(2) == "2" else m.group(1) + str(int(m.group(2)) - 1)
+        step = step[0].lower() + step[1:]
         known = {norm(p.step[0]) for p in self.places.values()}
         if step not in known and re.sub(r"(-lem)+$", "", step) in known:
             step = re.sub(r"(-lem)+$", "", step)
@@ -100,11 +96,12 @@ class Names:
                 out = [p.step[1]] + parts[1:]
                 if len(out) > 1:
                     out[1] = p.fields.get(out[1], out[1])
-                if len(out) > 2 and out[1] in ("new", "auto") and out[2].isdigit() and p.callee:
-                    words = p.callee.split("::")
-                    names = self.lent.get(words[0] + "::" + words[-1], [])
-                    if int(out[2]) < len(names):
-                        out[2] = names[int(out[2])]
+                if len(out) > 2 and out[1] in ("new", "auto") and p.callee in self.params:
+                    k = 2
+                    while k < len(out) and out[k] == "1":
+                        k += 1
+                    if k < len(out) and out[k] == "0" and k - 2 < len(self.params[p.callee]):
+                        out[2:k + 1] = [self.params[p.callee][k - 2]]
                 return out
         return parts
 
@@ -117,7 +114,7 @@ class Names:
             if name.startswith(word) and norm(name[len(word):]) in self.loops:
                 return word + self.loops[norm(name[len(word):])]
         p = self.places.get(norm(name))
-        return p.new if p else None
+        return self.places[norm(self.whole(name))].new if p else None
 
     def block(self, text):
         """A declaration with its paths turned."""
@@ -133,7 +130,7 @@ class Names:
                     where[head.group(1).split()[0]] = self.at[to]
         for h in re.finditer(r"\((\w+) : tie\.([^\s()]+)[^()]*\)", text):
             if norm(h.group(2)) in self.places:
-                where[h.group(1)] = h.group(2)
+                where[h.group(1)] = self.whole(h.group(2))
         only = set(where)
         # What a let binds to a record of facts is that record.
         while True:
@@ -167,11 +164,21 @@ class Names:
             if to and (m.group(2).startswith("Need-") or m.group(2).startswith(("invariant", "decreases"))):
                 own[m.group(1)] = to[5:] if to.startswith("Need-") else to
         for m in re.finditer(r"(?m)^(\S+) : (?:\{.*?\} → )?\((\w+) : tie\.([^\s()]+)[^()]*\)", text):
-            self.helpers[m.group(1)] = m.group(3)
+            self.helpers[m.group(1)] = self.whole(m.group(3)) if norm(m.group(3)) in self.places else m.group(3)
         for m in re.finditer(r"(?m)^module _ \((\w+) : tie\.([^\s()]+)[^()]*\) where\n((?:  .*\n|\n)*)", text):
             for n in re.finditer(r"(?m)^  (?:abbrev |unfoldable )*([\w-]+) :", m.group(3)):
                 self.helpers[n.group(1)] = m.group(2)
-        text = "\n\n".join(self.block(b) for b in text.split("\n\n"))
+        blocks = []
+        for b in text.split("\n\n"):
+            m = re.match(r"(?:--.*\n)*(\S+) : tie\.Need-(\S+)", b)
+            if m and norm(m.group(2)) not in self.needs and "search rules" in b:
+                # A goal that Rattle settles itself now.
+                self.gone.add(m.group(1))
+            else:
+                blocks.append(b)
+        text = "\n\n".join(self.block(b) for b in blocks)
+        for g in self.gone:
+            text = re.sub(r"\n?[ \t]*(?<=[\s(])" + re.escape(g) + r"(?=[\s)])", "", text)
         def tie(m):
             to = self.label(m.group(1))
             if not to and m.group(1) not in ("spec", "close"):
@@ -191,7 +198,6 @@ class Names:
 
 def main(file, only):
     j = json.load(open(file, encoding="utf-8"))
-    by_function = lent("..")
     for base, dirs, files in os.walk("proofs"):
         for f in files:
             if f != "Proof.antt" and not base.endswith("/Proof"):
@@ -207,7 +213,7 @@ def main(file, only):
             p = os.path.join(base, f)
             text = open(p, encoding="utf-8").read()
             said = []
-            made = Names(j[keys[0]], by_function).turn(text, said)
+            made = Names(j[keys[0]]).turn(text, said)
             for s in said:
                 print(f"{p}: tie.{s} is unknown")
             if made != text:

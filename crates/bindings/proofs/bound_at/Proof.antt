@@ -4,51 +4,51 @@ use borrow.Author.Rules.{rules}
 use Rattle.bindings.proofs.bound_at.Statement.{statement}
 use Rattle.bindings.proofs.bound_at.Tie as tie
 
-element-copy-out-if1 : tie.Need-element-copy-out-if1
-element-copy-out-if1 c = search rules
+bounds-run-1 : tie.Need-bounds-run-1
+bounds-run-1 c = search rules
 
-mul-value-of : tie.Need-overflow-mul-value-of
-mul-value-of c = search rules
+overflow_mul-i : tie.Need-overflow_mul-i
+overflow_mul-i c = search rules
 
-add-value-of : tie.Need-overflow-add-value-of
-add-value-of c = search rules
+overflow_add-i : tie.Need-overflow_add-i
+overflow_add-i c = search rules
 
-mul-value-of-2 : tie.Need-overflow-mul-value-of-2
-mul-value-of-2 c = search rules
+offset_bounds-words-i : tie.Need-offset_bounds-words-i
+offset_bounds-words-i c = search rules
 
-shared-slice-read-value-of : tie.Need-shared-slice-read-value-of
-shared-slice-read-value-of c = search rules
+bounds-words-i : tie.Need-bounds-words-i
+bounds-words-i c = search rules
 
-mul-value-of-3 : tie.Need-overflow-mul-value-of-3
-mul-value-of-3 c = search rules
+overflow_mul-i-then-i-run : tie.Need-overflow_mul-i-then-i-run
+overflow_mul-i-then-i-run c = search rules
 
-mul-value-of-4 : tie.Need-overflow-mul-value-of-4
-mul-value-of-4 c = search rules
+offset_bounds-words-i-then-i-run : tie.Need-offset_bounds-words-i-then-i-run
+offset_bounds-words-i-then-i-run c = search rules
 
-shared-slice-read-value-of-2 : tie.Need-shared-slice-read-value-of-2
-shared-slice-read-value-of-2 c = search rules
+bounds-words-i-then-i-run : tie.Need-bounds-words-i-then-i-run
+bounds-words-i-then-i-run c = search rules
 
-value-of-requires : tie.Need-value-of-requires
-value-of-requires c κs = search rules
+value_of-requires : tie.Need-value_of-requires
+value_of-requires c κs = search rules
+
+returns-then-i-run : tie.Need-returns-then-i-run
+returns-then-i-run c = bound_some _ _ _ _ c.if-i-run.true c.value_of.ensures
 
 returns : tie.Need-returns
-returns c = bound_some _ _ _ _ c.before.before.before.if1.true c.value_of_lem.ensures
-
-returns-2 : tie.Need-returns-2
-returns-2 c = bound_none _ _ _ c.if1.false
+returns c = bound_none _ _ _ c.if-i-run.false
 
 pub bound_at_spec : {M : Type 1} → statement M
 bound_at_spec =
     tie.close
     (tie.spec
-    element-copy-out-if1
-    mul-value-of
-    add-value-of
-    mul-value-of-2
-    shared-slice-read-value-of
-    mul-value-of-3
-    mul-value-of-4
-    shared-slice-read-value-of-2
-    value-of-requires
-    returns
-    returns-2)
+    bounds-run-1
+    overflow_mul-i
+    overflow_add-i
+    offset_bounds-words-i
+    bounds-words-i
+    overflow_mul-i-then-i-run
+    offset_bounds-words-i-then-i-run
+    bounds-words-i-then-i-run
+    value_of-requires
+    returns-then-i-run
+    returns)

@@ -7,15 +7,15 @@ use borrow.Author.Rules.{rules}
 use Rattle.bindings.proofs.close.Statement.{statement}
 use Rattle.bindings.proofs.close.Tie as tie
 
-element-copy-out-from : tie.Need-element-copy-out-from
-element-copy-out-from c = search rules
+bounds-run-2 : tie.Need-bounds-run-2
+bounds-run-2 c = search rules
 
-break-out-requires : tie.Need-break-out-requires
-break-out-requires c κs = search rules
+break_out-requires : tie.Need-break_out-requires
+break_out-requires c κs = search rules
 
 returns : tie.Need-returns
 unfolding store_of
-returns c words bytes f = became_as _ (closed _) refl (c.break-out.ensures words bytes f)
+returns c words bytes f = became_as _ (closed _) refl (c.break_out.ensures words bytes f)
 
 pub close_spec : {M : Type 1} → statement M
-close_spec = tie.close (tie.spec element-copy-out-from break-out-requires returns)
+close_spec = tie.close (tie.spec bounds-run-2 break_out-requires returns)

@@ -8,94 +8,94 @@ use Rattle.bindings.proofs.declare.Statement.{statement}
 use Rattle.bindings.proofs.declare.Tie as tie
 
 -- the binding that is found is one of those that there are
-below : (c : tie.After-known-told) → c.before.found.given.0.0 < bound_of c.before.before.before.before.before.before.before.before.args.run.now
-below c = found_below _ _ _ _ _ _ c.before.before.before.last_of.ensures c.before.found.given.1
+below : (c : tie.In-At) → c.in-At.at < bound_of c.args.run.now
+below c = found_below _ _ _ _ _ _ c.last_of-found.ensures c.in-At.is
 
-element-copy-out-bound : tie.Need-element-copy-out-bound
-element-copy-out-bound c = search rules
+bounds-run-1 : tie.Need-bounds-run-1
+bounds-run-1 c = search rules
 
-element-copy-out-last-of : tie.Need-element-copy-out-last-of
-element-copy-out-last-of c = search rules
+bounds-run-2 : tie.Need-bounds-run-2
+bounds-run-2 c = search rules
 
-last-of-requires : tie.Need-last-of-requires
-last-of-requires c κs = search rules
+last_of-found-requires : tie.Need-last_of-found-requires
+last_of-found-requires c κs = search rules
 
-enum-known-found : tie.Need-enum-known-found
-enum-known-found c = search rules
+enum_known-found : tie.Need-enum_known-found
+enum_known-found c = search rules
 
-mul-put-slot : tie.Need-overflow-mul-put-slot
-mul-put-slot c = omega (arith, below c.before)
+overflow_mul-at : tie.Need-overflow_mul-at
+overflow_mul-at c = omega (arith, below c.before)
 
-put-slot-requires : tie.Need-put-slot-requires
-put-slot-requires c κs = omega (arith, below c.before)
+put_slot-requires : tie.Need-put_slot-requires
+put_slot-requires c κs = omega (arith, below c.before)
 
-same_length : tie.Need-same-length
-same_length c = search rules
+shape_of-words-in-At : tie.Need-shape_of-words-in-At
+shape_of-words-in-At c = search rules
+
+returns-in-At : tie.Need-returns-in-At
+returns-in-At c = declare_again _ _ _ _ c.last_of-found.ensures _ c.requires _ _ c.in-At.is c.put_slot.ensures
+
+enum_told-1 : tie.Need-enum_told-1
+enum_told-1 c = search rules
+
+shape_of-words-then-bound-ge256 : tie.Need-shape_of-words-then-bound-ge256
+shape_of-words-then-bound-ge256 c = search rules
+
+returns-then-bound-ge256 : tie.Need-returns-then-bound-ge256
+returns-then-bound-ge256 c = declare_full _ _ _ _ c.last_of-found.ensures _ c.requires c.in_default.is c.if-bound-ge256.true
+
+overflow_mul-bound : tie.Need-overflow_mul-bound
+overflow_mul-bound c = search rules
+
+put_slot-requires-2 : tie.Need-put_slot-requires-2
+put_slot-requires-2 c κs = search rules
+
+overflow_mul-words : tie.Need-overflow_mul-words
+overflow_mul-words c = search rules
+
+overflow_add-words : tie.Need-overflow_add-words
+overflow_add-words c = search rules
+
+offset_bounds-words-bound : tie.Need-offset_bounds-words-bound
+offset_bounds-words-bound c = search rules
+
+bounds-words-bound : tie.Need-bounds-words-bound
+bounds-words-bound c = search rules
+
+overflow_add-run : tie.Need-overflow_add-run
+overflow_add-run c = search rules
+
+bounds-run-1-2 : tie.Need-bounds-run-1-2
+bounds-run-1-2 c = search rules
+
+shape_of-words : tie.Need-shape_of-words
+shape_of-words c = search rules
 
 returns : tie.Need-returns
-returns c = declare_again _ _ _ _ c.before.before.before.before.before.before.before.last_of.ensures _ c.before.before.before.before.before.before.before.before.before.before.before.before.requires _ _ c.before.before.before.before.before.found.given.1 c.before.before.put-slot.ensures
-
-enum_told : tie.Need-enum-told
-enum_told c = search rules
-
-same-length-2 : tie.Need-same-length-2
-same-length-2 c = search rules
-
-returns-2 : tie.Need-returns-2
-returns-2 c = declare_full _ _ _ _ c.before.before.before.last_of.ensures _ c.before.before.before.before.before.before.before.before.requires c.before.enum_told.given.1 c.if1.true
-
-mul-put-slot-2 : tie.Need-overflow-mul-put-slot-2
-mul-put-slot-2 c = search rules
-
-put-slot-requires-2 : tie.Need-put-slot-requires-2
-put-slot-requires-2 c κs = search rules
-
-mul_words : tie.Need-overflow-mul-words
-mul_words c = search rules
-
-add_words : tie.Need-overflow-add-words
-add_words c = search rules
-
-mul-words-2 : tie.Need-overflow-mul-words-2
-mul-words-2 c = search rules
-
-slice-write-words : tie.Need-slice-write-words
-slice-write-words c = search rules
-
-add-run : tie.Need-overflow-add-run
-add-run c = search rules
-
-element-write-run : tie.Need-element-write-run
-element-write-run c = search rules
-
-same-length-3 : tie.Need-same-length-3
-same-length-3 c = search rules
-
-returns-3 : tie.Need-returns-3
-returns-3 c = declare_new _ _ _ _ c.before.before.before.before.before.before.before.last_of.ensures _ c.before.before.before.before.before.before.before.before.before.before.before.before.requires _ c.before.before.before.before.before.enum_told.given.1 c.before.before.before.before.if1.false c.before.before.put-slot2.ensures
+returns c = declare_new _ _ _ _ c.last_of-found.ensures _ c.requires _ c.in_default.is c.if-bound-ge256.false c.put_slot-2.ensures
 
 pub declare_spec : {M : Type 1} → statement M
 declare_spec =
     tie.close
     (tie.spec
-    element-copy-out-bound
-    element-copy-out-last-of
-    last-of-requires
-    enum-known-found
-    mul-put-slot
-    put-slot-requires
-    same_length
-    returns
-    enum_told
-    same-length-2
-    returns-2
-    mul-put-slot-2
-    put-slot-requires-2
-    mul_words
-    add_words
-    mul-words-2
-    slice-write-words
-    add-run
-    element-write-run
-    same-length-3
-    returns-3)
+    bounds-run-1
+    bounds-run-2
+    last_of-found-requires
+    enum_known-found
+    overflow_mul-at
+    put_slot-requires
+    shape_of-words-in-At
+    returns-in-At
+    enum_told-1
+    shape_of-words-then-bound-ge256
+    returns-then-bound-ge256
+    overflow_mul-bound
+    put_slot-requires-2
+    overflow_mul-words
+    overflow_add-words
+    offset_bounds-words-bound
+    bounds-words-bound
+    overflow_add-run
+    bounds-run-1-2
+    shape_of-words
+    returns)

@@ -7,8 +7,8 @@ use borrow.Author.Rules.{rules}
 use Rattle.bindings.proofs.empty.Statement.{statement}
 use Rattle.bindings.proofs.empty.Tie as tie
 
-element-copy-out-scope : tie.Need-element-copy-out-scope
-element-copy-out-scope c = search rules
+bounds-run-2 : tie.Need-bounds-run-2
+bounds-run-2 c = search rules
 
 keep-requires : tie.Need-keep-requires
 keep-requires c κs = search rules
@@ -18,4 +18,4 @@ unfolding store_of
 returns c words bytes f = became_as _ emptied refl (c.keep.ensures words bytes f)
 
 pub empty_spec : {M : Type 1} → statement M
-empty_spec = tie.close (tie.spec element-copy-out-scope keep-requires returns)
+empty_spec = tie.close (tie.spec bounds-run-2 keep-requires returns)

@@ -7,14 +7,14 @@ use Rattle.bindings.proofs.end_call.Tie as tie
 close-requires : tie.Need-close-requires
 close-requires c κs = search rules
 
-element-write-run : tie.Need-element-write-run
-element-write-run c = search rules
+bounds-run-3 : tie.Need-bounds-run-3
+bounds-run-3 c = search rules
 
-drop-pending-requires : tie.Need-drop-pending-requires
-drop-pending-requires c κs = search rules
+drop_pending-requires : tie.Need-drop_pending-requires
+drop_pending-requires c κs = search rules
 
 returns : tie.Need-returns
-returns c = run_then (run_then c.before.before.close.ensures (became_floor _ _)) c.drop-pending.ensures
+returns c = run_then (run_then c.close.ensures (became_floor _ _)) c.drop_pending.ensures
 
 pub end_call_spec : {M : Type 1} → statement M
-end_call_spec = tie.close (tie.spec close-requires element-write-run drop-pending-requires returns)
+end_call_spec = tie.close (tie.spec close-requires bounds-run-3 drop_pending-requires returns)

@@ -5,17 +5,17 @@ use borrow.Author.Rules.{rules}
 use Rattle.bindings.proofs.keep.Statement.{statement}
 use Rattle.bindings.proofs.keep.Tie as tie
 
-element-copy-out-if1 : tie.Need-element-copy-out-if1
-element-copy-out-if1 c = search rules
+bounds-run-1 : tie.Need-bounds-run-1
+bounds-run-1 c = search rules
 
-element-write-run : tie.Need-element-write-run
-element-write-run c = search rules
+bounds-run-1-then-count-run : tie.Need-bounds-run-1-then-count-run
+bounds-run-1-then-count-run c = search rules
 
-returns : tie.Need-returns
-returns c = fewer bindings_counted _ _ (le_of_lt c.if1.true)
+returns-then-count-run : tie.Need-returns-then-count-run
+returns-then-count-run c = fewer bindings_counted _ _ (le_of_lt c.if-count-run.true)
 
-returns-2 : tie.Need-returns-2
-returns-2 c = enough bindings_counted _ _ c.if1.false
+returns-else-count-run : tie.Need-returns-else-count-run
+returns-else-count-run c = enough bindings_counted _ _ c.if-count-run.false
 
 pub keep_spec : {M : Type 1} → statement M
-keep_spec = tie.close (tie.spec element-copy-out-if1 element-write-run returns returns-2)
+keep_spec = tie.close (tie.spec bounds-run-1 bounds-run-1-then-count-run returns-then-count-run returns-else-count-run)

@@ -6,55 +6,55 @@ use Rattle.bindings.proofs.ScopeLaws.{Among, last_found, last_passed, last_nowhe
 use Rattle.bindings.proofs.last_of.Statement.{statement}
 use Rattle.bindings.proofs.last_of.Tie as tie
 
-abbrev invariant-loop : tie.invariant-loop
-invariant-loop words name from to i₀ i = (i ≤ to) × Among words name from to i
+abbrev invariant-loop-i : tie.invariant-loop-i
+invariant-loop-i words name from to i₀ i = (i ≤ to) × Among words name from to i
 
-abbrev decreases-loop : tie.decreases-loop
-decreases-loop words name from to i₀ i = i
+abbrev decreases-loop-i : tie.decreases-loop-i
+decreases-loop-i words name from to i₀ i = i
 
-loop-holds : tie.Need-loop-init invariant-loop decreases-loop
-loop-holds c = (omega arith, refl)
+loop-i-init : tie.Need-loop-i-init invariant-loop-i decreases-loop-i
+loop-i-init c = (omega arith, refl)
 
-sub-i : tie.Need-overflow-sub-i invariant-loop decreases-loop
-sub-i c = omega arith
+overflow_sub-i : tie.Need-overflow_sub-i invariant-loop-i decreases-loop-i
+overflow_sub-i c = omega arith
 
-mul-if1 : tie.Need-overflow-mul-if1 invariant-loop decreases-loop
-mul-if1 c = omega arith
+overflow_mul-i : tie.Need-overflow_mul-i invariant-loop-i decreases-loop-i
+overflow_mul-i c = omega arith
 
-add-if1 : tie.Need-overflow-add-if1 invariant-loop decreases-loop
-add-if1 c = omega arith
+overflow_add-i : tie.Need-overflow_add-i invariant-loop-i decreases-loop-i
+overflow_add-i c = omega arith
 
-mul-if1-2 : tie.Need-overflow-mul-if1-2 invariant-loop decreases-loop
-mul-if1-2 c = omega arith
+offset_bounds-words-i : tie.Need-offset_bounds-words-i invariant-loop-i decreases-loop-i
+offset_bounds-words-i c = omega arith
 
-shared-slice-read-if1 : tie.Need-shared-slice-read-if1 invariant-loop decreases-loop
-shared-slice-read-if1 c = omega arith
+bounds-words-i : tie.Need-bounds-words-i invariant-loop-i decreases-loop-i
+bounds-words-i c = omega arith
 
-returns : tie.Need-returns invariant-loop decreases-loop
-returns c = last_found _ _ _ _ _ c.before.before.loop-test.true c.before.before.before.loop.invariant.1 c.if1.true
+returns-then-words-i : tie.Need-returns-then-words-i invariant-loop-i decreases-loop-i
+returns-then-words-i c = last_found _ _ _ _ _ c.loop-i-test.true c.loop-i.invariant.1 c.if-words-i.true
 
-loop-less : tie.Need-loop-smaller invariant-loop decreases-loop
-loop-less c = omega arith
+loop-i-smaller : tie.Need-loop-i-smaller invariant-loop-i decreases-loop-i
+loop-i-smaller c = omega arith
 
-loop-again : tie.Need-loop-preserved invariant-loop decreases-loop
-loop-again c = (omega arith, last_passed _ _ _ _ _ c.before.before.loop-test.true c.before.before.before.loop.invariant.1 c.if1.false)
+loop-i-preserved : tie.Need-loop-i-preserved invariant-loop-i decreases-loop-i
+loop-i-preserved c = (omega arith, last_passed _ _ _ _ _ c.loop-i-test.true c.loop-i.invariant.1 c.if-words-i.false)
 
-returns-2 : tie.Need-returns-2 invariant-loop decreases-loop
-returns-2 c = last_nowhere _ _ _ _ _ c.loop-test.false c.before.loop.invariant.1
+returns : tie.Need-returns invariant-loop-i decreases-loop-i
+returns c = last_nowhere _ _ _ _ _ c.loop-i-test.false c.loop-i.invariant.1
 
 pub last_of_spec : {M : Type 1} → statement M
 last_of_spec =
     tie.close
     (tie.spec
-    invariant-loop
-    decreases-loop
-    loop-holds
-    sub-i
-    mul-if1
-    add-if1
-    mul-if1-2
-    shared-slice-read-if1
-    returns
-    loop-less
-    loop-again
-    returns-2)
+    invariant-loop-i
+    decreases-loop-i
+    loop-i-init
+    overflow_sub-i
+    overflow_mul-i
+    overflow_add-i
+    offset_bounds-words-i
+    bounds-words-i
+    returns-then-words-i
+    loop-i-smaller
+    loop-i-preserved
+    returns)

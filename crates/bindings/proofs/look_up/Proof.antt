@@ -4,14 +4,14 @@ use borrow.Author.Rules.{rules}
 use Rattle.bindings.proofs.look_up.Statement.{statement}
 use Rattle.bindings.proofs.look_up.Tie as tie
 
-element-copy-out-last-of : tie.Need-element-copy-out-last-of
-element-copy-out-last-of c = search rules
+bounds-run-3 : tie.Need-bounds-run-3
+bounds-run-3 c = search rules
 
-element-copy-out-last-of-2 : tie.Need-element-copy-out-last-of-2
-element-copy-out-last-of-2 c = search rules
+bounds-run-1 : tie.Need-bounds-run-1
+bounds-run-1 c = search rules
 
-last-of-requires : tie.Need-last-of-requires
-last-of-requires c κs = search rules
+last_of-requires : tie.Need-last_of-requires
+last_of-requires c κs = search rules
 
 returns : tie.Need-returns
 unfolding store_of
@@ -20,4 +20,4 @@ returns c = record { is = λ bytes. c.last_of.ensures }
 pub look_up_spec : {M : Type 1} → statement M
 look_up_spec =
     tie.close
-    (tie.spec element-copy-out-last-of element-copy-out-last-of-2 last-of-requires returns)
+    (tie.spec bounds-run-3 bounds-run-1 last_of-requires returns)

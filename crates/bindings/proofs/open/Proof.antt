@@ -4,14 +4,14 @@ use borrow.Author.Rules.{rules}
 use Rattle.bindings.proofs.open.Statement.{statement}
 use Rattle.bindings.proofs.open.Tie as tie
 
-element-copy-out-run : tie.Need-element-copy-out-run
-element-copy-out-run c = search rules
+bounds-run-1 : tie.Need-bounds-run-1
+bounds-run-1 c = search rules
 
-element-write-run : tie.Need-element-write-run
-element-write-run c = search rules
+bounds-run-2 : tie.Need-bounds-run-2
+bounds-run-2 c = search rules
 
 returns : tie.Need-returns
 returns c = became_opened _
 
 pub open_spec : {M : Type 1} → statement M
-open_spec = tie.close (tie.spec element-copy-out-run element-write-run returns)
+open_spec = tie.close (tie.spec bounds-run-1 bounds-run-2 returns)

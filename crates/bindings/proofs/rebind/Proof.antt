@@ -4,25 +4,25 @@ use borrow.Author.Rules.{rules}
 use Rattle.bindings.proofs.rebind.Statement.{statement}
 use Rattle.bindings.proofs.rebind.Tie as tie
 
-element-copy-out-if1 : tie.Need-element-copy-out-if1
-element-copy-out-if1 c = search rules
+bounds-run-1 : tie.Need-bounds-run-1
+bounds-run-1 c = search rules
 
-mul-put-slot : tie.Need-overflow-mul-put-slot
-mul-put-slot c = search rules
+overflow_mul-i : tie.Need-overflow_mul-i
+overflow_mul-i c = search rules
 
-put-slot-requires : tie.Need-put-slot-requires
-put-slot-requires c κs = search rules
+put_slot-requires : tie.Need-put_slot-requires
+put_slot-requires c κs = search rules
 
-same_length : tie.Need-same-length
-same_length c = search rules
+shape_of-words : tie.Need-shape_of-words
+shape_of-words c = search rules
 
-returns : tie.Need-returns
-returns c = rebind_some _ _ _ _ _ c.before.before.before.before.before.before.before.requires c.before.before.before.before.if1.true c.before.before.put-slot.ensures
+returns-then-i-run : tie.Need-returns-then-i-run
+returns-then-i-run c = rebind_some _ _ _ _ _ c.requires c.if-i-run.true c.put_slot.ensures
 
-returns-2 : tie.Need-returns-2
-returns-2 c = rebind_none _ _ _ _ c.before.before.before.requires c.if1.false
+returns-else-i-run : tie.Need-returns-else-i-run
+returns-else-i-run c = rebind_none _ _ _ _ c.requires c.if-i-run.false
 
 pub rebind_spec : {M : Type 1} → statement M
 rebind_spec =
     tie.close
-    (tie.spec element-copy-out-if1 mul-put-slot put-slot-requires same_length returns returns-2)
+    (tie.spec bounds-run-1 overflow_mul-i put_slot-requires shape_of-words returns-then-i-run returns-else-i-run)

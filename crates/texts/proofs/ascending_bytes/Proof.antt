@@ -9,75 +9,72 @@ use Rattle.texts.proofs.Parts.{ascending_from, order_start, order_next, order_sh
 use Rattle.texts.proofs.ascending_bytes.Statement.{statement}
 use Rattle.texts.proofs.ascending_bytes.Tie as tie
 
-abbrev invariant-loop : tie.invariant-loop
-invariant-loop image p count q count2 i₀ i =
+abbrev invariant-loop-i : tie.invariant-loop-i
+invariant-loop-i image p count q count2 i₀ i =
     (i ≤ count) × (ascending (slice p (p + count) image) (slice q (q + count2) image) ≡ ascending_from image p count q count2 i)
 
-abbrev decreases-loop : tie.decreases-loop
-decreases-loop image p count q count2 i₀ i = count - i
+abbrev decreases-loop-i : tie.decreases-loop-i
+decreases-loop-i image p count q count2 i₀ i = count - i
 
-loop-holds : tie.Need-loop-init invariant-loop decreases-loop
-loop-holds c = (omega arith, order_start c.args.image.now c.args.p c.args.count c.args.q c.args.count2)
+loop-i-init : tie.Need-loop-i-init invariant-loop-i decreases-loop-i
+loop-i-init c = (omega arith, order_start c.args.image.now c.args.p c.args.count c.args.q c.args.count2)
 
-returns : tie.Need-returns invariant-loop decreases-loop
+returns-then-count2-i : tie.Need-returns-then-count2-i invariant-loop-i decreases-loop-i
+returns-then-count2-i c =
+    let l = c.loop-i in
+    let a = c.args in
+    sym (l.invariant.1 ∙ order_short a.image.now a.p a.count a.q a.count2 l.i (omega arith) c.requires.0 c.if-count2-i.true)
+
+overflow_add-a : tie.Need-overflow_add-a invariant-loop-i decreases-loop-i
+overflow_add-a c = search rules
+
+bounds-image-p : tie.Need-bounds-image-p invariant-loop-i decreases-loop-i
+bounds-image-p c = search rules
+
+overflow_add-b : tie.Need-overflow_add-b invariant-loop-i decreases-loop-i
+overflow_add-b c = search rules
+
+bounds-image-q : tie.Need-bounds-image-q invariant-loop-i decreases-loop-i
+bounds-image-q c = search rules
+
+returns-then-a-b : tie.Need-returns-then-a-b invariant-loop-i decreases-loop-i
+returns-then-a-b c =
+    let l = c.loop-i in
+    let a = c.args in
+    sym (l.invariant.1 ∙ order_told a.image.now a.p a.count a.q a.count2 l.i (omega arith) c.requires.0 (omega arith) c.requires.1 c.if-a-b.true)
+
+overflow_add-i : tie.Need-overflow_add-i invariant-loop-i decreases-loop-i
+overflow_add-i c = search rules
+
+loop-i-smaller : tie.Need-loop-i-smaller invariant-loop-i decreases-loop-i
+loop-i-smaller c = search rules
+
+loop-i-preserved : tie.Need-loop-i-preserved invariant-loop-i decreases-loop-i
+loop-i-preserved c =
+    let l = c.loop-i in
+    let a = c.args in
+    (omega arith, l.invariant.1 ∙ order_next a.image.now a.p a.count a.q a.count2 l.i (omega arith) c.requires.0 (omega arith) c.requires.1 c.if-a-b.false)
+
+returns : tie.Need-returns invariant-loop-i decreases-loop-i
 returns c =
-    let l = c.before.before.loop in
-    let s = c.before.before.before in
-    let a = s.args in
-    sym (l.invariant.1 ∙ order_short a.image.now a.p a.count a.q a.count2 l.i (omega arith) s.requires.0 c.if1.true)
-
-add_a : tie.Need-overflow-add-a invariant-loop decreases-loop
-add_a c = search rules
-
-shared-slice-read-a : tie.Need-shared-slice-read-a invariant-loop decreases-loop
-shared-slice-read-a c = search rules
-
-add-b : tie.Need-overflow-add-b invariant-loop decreases-loop
-add-b c = search rules
-
-shared-slice-read-b : tie.Need-shared-slice-read-b invariant-loop decreases-loop
-shared-slice-read-b c = search rules
-
-returns-2 : tie.Need-returns-2 invariant-loop decreases-loop
-returns-2 c =
-    let l = c.before.before.before.before.before.loop in
-    let s = c.before.before.before.before.before.before in
-    let a = s.args in
-    sym (l.invariant.1 ∙ order_told a.image.now a.p a.count a.q a.count2 l.i (omega arith) s.requires.0 (omega arith) s.requires.1 c.if2.true)
-
-add-i : tie.Need-overflow-add-i invariant-loop decreases-loop
-add-i c = search rules
-
-loop-less : tie.Need-loop-smaller invariant-loop decreases-loop
-loop-less c = search rules
-
-loop-again : tie.Need-loop-preserved invariant-loop decreases-loop
-loop-again c =
-    let l = c.before.before.before.before.before.loop in
-    let s = c.before.before.before.before.before.before in
-    let a = s.args in
-    (omega arith, l.invariant.1 ∙ order_next a.image.now a.p a.count a.q a.count2 l.i (omega arith) s.requires.0 (omega arith) s.requires.1 c.if2.false)
-
-returns-3 : tie.Need-returns-3 invariant-loop decreases-loop
-returns-3 c =
-    let l = c.before.loop in
-    let a = c.before.before.args in
-    sym (l.invariant.1 ∙ order_all a.image.now a.p a.count a.q a.count2 l.i c.loop-test.false)
+    let l = c.loop-i in
+    let a = c.args in
+    sym (l.invariant.1 ∙ order_all a.image.now a.p a.count a.q a.count2 l.i c.loop-i-test.false)
 
 pub ascending_bytes_spec : {M : Type 1} → statement M
 ascending_bytes_spec =
     tie.close
     (tie.spec
-    invariant-loop
-    decreases-loop
-    loop-holds
-    returns
-    add_a
-    shared-slice-read-a
-    add-b
-    shared-slice-read-b
-    returns-2
-    add-i
-    loop-less
-    loop-again
-    returns-3)
+    invariant-loop-i
+    decreases-loop-i
+    loop-i-init
+    returns-then-count2-i
+    overflow_add-a
+    bounds-image-p
+    overflow_add-b
+    bounds-image-q
+    returns-then-a-b
+    overflow_add-i
+    loop-i-smaller
+    loop-i-preserved
+    returns)

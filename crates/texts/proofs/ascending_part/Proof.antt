@@ -5,23 +5,21 @@ use borrow.Author.Rules.{rules}
 use Rattle.texts.proofs.ascending_part.Statement.{statement}
 use Rattle.texts.proofs.ascending_part.Tie as tie
 
-literal-span-requires : tie.Need-literal-span-requires
-literal-span-requires c κs = search rules
+literal_span-a-requires : tie.Need-literal_span-a-requires
+literal_span-a-requires c κs = search rules
 
-literal-span-requires-2 : tie.Need-literal-span-requires-2
-literal-span-requires-2 c κs = search rules
+literal_span-b-requires : tie.Need-literal_span-b-requires
+literal_span-b-requires c κs = search rules
 
-ascending-bytes-requires : tie.Need-ascending-bytes-requires
-ascending-bytes-requires c κs = search rules
+ascending_bytes-requires : tie.Need-ascending_bytes-requires
+ascending_bytes-requires c κs = search rules
 
 returns : tie.Need-returns
 returns c =
-    let second = c.before in
-    let first = second.before in
-    c.ascending-bytes.ensures
-    ∙ literals_ascend _ _ first.before.before.requires _ _ _ _ _ _ first.literal-span.ensures second.literal-span2.ensures
+    c.ascending_bytes.ensures
+    ∙ literals_ascend _ _ c.requires _ _ _ _ _ _ c.literal_span-a.ensures c.literal_span-b.ensures
 
 pub ascending_part_spec : {M : Type 1} → statement M
 ascending_part_spec =
     tie.close
-    (tie.spec literal-span-requires literal-span-requires-2 ascending-bytes-requires returns)
+    (tie.spec literal_span-a-requires literal_span-b-requires ascending_bytes-requires returns)

@@ -7,11 +7,11 @@ use Rattle.texts.proofs.TextLaws.{room_so}
 use Rattle.texts.proofs.has_room.Statement.{statement}
 use Rattle.texts.proofs.has_room.Tie as tie
 
-returns : tie.Need-returns
-returns c = sym (lt-leb (c.before.args.at + c.before.args.count) c.before.args.total (omega arith))
+returns-then-total-count : tie.Need-returns-then-total-count
+returns-then-total-count c = sym (lt-leb (c.args.at + c.args.count) c.args.total (omega arith))
 
-returns-2 : tie.Need-returns-2
-returns-2 c = room_so _ _ _ c.if1.false
+returns : tie.Need-returns
+returns c = room_so _ _ _ c.if-total-count.false
 
 pub has_room_spec : {M : Type 1} → statement M
-has_room_spec = tie.close (tie.spec returns returns-2)
+has_room_spec = tie.close (tie.spec returns-then-total-count returns)

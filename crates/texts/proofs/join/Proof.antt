@@ -10,121 +10,106 @@ use Rattle.texts.proofs.join.Statement.{statement}
 use Rattle.texts.proofs.join.Tie as tie
 
 -- where each text ends
-first-end : (c : tie.After-first) → (text_of c.before.before.before.before.before.before.before.before.before.args.run.now ≤ c.first.given.0.0) × (c.first.given.0.0 ≤ 16384)
+first-end : (c : tie.In-End) → (text_of c.args.run.now ≤ c.in-End.at) × (c.in-End.at ≤ 16384)
 first-end c =
-    let put = c.before.before.before.before in
-    let s = put.before.before.before.before.before in
-    let e = ended s.args.bytes.now _ _ (sym c.first.given.1 ∙ put.put-text.ensures.0) in
+    let e = ended c.args.bytes.now _ _ (sym c.in-End.is ∙ c.put_text-first.ensures.0) in
     (omega arith, omega arith)
 
-second-end : (c : tie.After-second) → (c.before.before.before.before.before.before.before.first.given.0.0 ≤ c.second.given.0.0) × (c.second.given.0.0 ≤ 16384)
+second-end : (c : tie.In-End-second) → (c.in-End.at ≤ c.in-End-second.end) × (c.in-End-second.end ≤ 16384)
 second-end c =
-    let put2 = c.before.before.before.before in
-    let put = put2.before.before.before.before.before.before.before in
-    let s = put.before.before.before.before.before in
-    let e = ended put.put-text.new.1.1.1.1.1.0 _ _ (sym c.second.given.1 ∙ put2.put-text2.ensures.0) in
-    (omega arith, omega (arith, put.put-text.auto.1.1.1.1.1.0, s.requires.1))
+    let e = ended c.put_text-first.new.bytes _ _ (sym c.in-End-second.is ∙ c.put_text-second.ensures.0) in
+    (omega arith, omega (arith, c.put_text-first.auto.bytes, c.requires.1))
 
-element-copy-out-made : tie.Need-element-copy-out-made
-element-copy-out-made c = search rules
+bounds-run-6 : tie.Need-bounds-run-6
+bounds-run-6 c = search rules
 
-put-text-requires : tie.Need-put-text-requires
-put-text-requires c κs = search rules
+put_text-first-requires : tie.Need-put_text-first-requires
+put_text-first-requires c κs = search rules
 
-enum-known-first : tie.Need-enum-known-first
-enum-known-first c = search rules
+enum_known-first : tie.Need-enum_known-first
+enum_known-first c = search rules
 
-enum_told : tie.Need-enum-told
-enum_told c = search rules
+enum_told-1 : tie.Need-enum_told-1
+enum_told-1 c = search rules
 
-same_length : tie.Need-same-length
-same_length c = search rules
+shape_of-bytes-in_default : tie.Need-shape_of-bytes-in_default
+shape_of-bytes-in_default c = search rules
+
+returns-in_default : tie.Need-returns-in_default
+returns-in_default c =
+    let a = c.args in
+    join_none a.image.now a.h a.n a.start a.len a.start2 a.len2 a.run.now a.bytes.now c.requires.1 c.requires.3
+    _ c.put_text-first.ensures.1 (sym c.in_default.is ∙ c.put_text-first.ensures.0)
+
+put_text-second-requires : tie.Need-put_text-second-requires
+put_text-second-requires c κs =
+    let e = first-end c.before in
+    (c.requires.0, e.0)
+
+enum_known-second : tie.Need-enum_known-second
+enum_known-second c = search rules
+
+enum_told-in_default-second : tie.Need-enum_told-in_default-second
+enum_told-in_default-second c = search rules
+
+shape_of-bytes-in_default-second : tie.Need-shape_of-bytes-in_default-second
+shape_of-bytes-in_default-second c = search rules
+
+returns-in_default-second : tie.Need-returns-in_default-second
+returns-in_default-second c =
+    let a = c.args in
+    join_not a.image.now a.h a.n a.start a.len a.start2 a.len2 a.run.now a.bytes.now c.requires.1 c.requires.3
+    _ c.put_text-first.ensures.1 _ (sym c.in-End.is ∙ c.put_text-first.ensures.0)
+    _ c.put_text-second.ensures.1 (sym c.in_default-second.is ∙ c.put_text-second.ensures.0)
+
+bounds-run-6-2 : tie.Need-bounds-run-6-2
+bounds-run-6-2 c = search rules
+
+overflow_cast-result : tie.Need-overflow_cast-result
+overflow_cast-result c = search rules
+
+overflow_cast-result-2 : tie.Need-overflow_cast-result-2
+overflow_cast-result-2 c = search rules
+
+overflow_add-result : tie.Need-overflow_add-result
+overflow_add-result c = search rules
+
+overflow_sub-result : tie.Need-overflow_sub-result
+overflow_sub-result c = omega (arith, first-end c.before.before.before.before.before.before, second-end c.before)
+
+overflow_cast-result-3 : tie.Need-overflow_cast-result-3
+overflow_cast-result-3 c = omega (arith, second-end c.before)
+
+shape_of-bytes : tie.Need-shape_of-bytes
+shape_of-bytes c = search rules
 
 returns : tie.Need-returns
 returns c =
-    let put = c.before.before.before.before in
-    let s = put.before.before.before.before.before in
-    let a = s.args in
-    join_none a.image.now a.h a.n a.start a.len a.start2 a.len2 a.run.now a.bytes.now s.requires.1 s.requires.3
-    _ put.put-text.ensures.1 (sym c.enum_told.given.1 ∙ put.put-text.ensures.0)
-
-put-text-requires-2 : tie.Need-put-text-requires-2
-put-text-requires-2 c κs =
-    let e = first-end c.before.before in
-    (c.before.before.before.before.before.before.before.before.before.before.before.requires.0, e.0)
-
-enum-known-second : tie.Need-enum-known-second
-enum-known-second c = search rules
-
-enum-told-2 : tie.Need-enum-told-2
-enum-told-2 c = search rules
-
-same-length-2 : tie.Need-same-length-2
-same-length-2 c = search rules
-
-returns-2 : tie.Need-returns-2
-returns-2 c =
-    let put2 = c.before.before.before.before in
-    let first = put2.before.before.before in
-    let put = first.before.before.before.before in
-    let s = put.before.before.before.before.before in
-    let a = s.args in
-    join_not a.image.now a.h a.n a.start a.len a.start2 a.len2 a.run.now a.bytes.now s.requires.1 s.requires.3
-    _ put.put-text.ensures.1 _ (sym first.first.given.1 ∙ put.put-text.ensures.0)
-    _ put2.put-text2.ensures.1 (sym c.enum-told2.given.1 ∙ put2.put-text2.ensures.0)
-
-element-write-run : tie.Need-element-write-run
-element-write-run c = search rules
-
-cast-t26 : tie.Need-overflow-cast-t26
-cast-t26 c = search rules
-
-cast-t27 : tie.Need-overflow-cast-t27
-cast-t27 c = search rules
-
-add-t28 : tie.Need-overflow-add-t28
-add-t28 c = search rules
-
-sub-t29 : tie.Need-overflow-sub-t29
-sub-t29 c = omega (arith, first-end c.before.before.before.before.before.before.before.before.before, second-end c.before.before)
-
-cast-t30 : tie.Need-overflow-cast-t30
-cast-t30 c = omega (arith, second-end c.before.before)
-
-same-length-3 : tie.Need-same-length-3
-same-length-3 c = search rules
-
-returns-3 : tie.Need-returns-3
-returns-3 c =
-    let put2 = c.before.before.before.before.before.before in
-    let first = put2.before.before.before in
-    let put = first.before.before.before.before in
-    let s = put.before.before.before.before.before in
-    let a = s.args in
-    join_all a.image.now a.h a.n a.start a.len a.start2 a.len2 a.run.now a.bytes.now s.requires.1 s.requires.3
-    _ put.put-text.ensures.1 _ (sym first.first.given.1 ∙ put.put-text.ensures.0)
-    _ put2.put-text2.ensures.1 _ (sym c.before.before.second.given.1 ∙ put2.put-text2.ensures.0)
+    let a = c.args in
+    join_all a.image.now a.h a.n a.start a.len a.start2 a.len2 a.run.now a.bytes.now c.requires.1 c.requires.3
+    _ c.put_text-first.ensures.1 _ (sym c.in-End.is ∙ c.put_text-first.ensures.0)
+    _ c.put_text-second.ensures.1 _ (sym c.in-End-second.is ∙ c.put_text-second.ensures.0)
 
 pub join_spec : {M : Type 1} → statement M
 join_spec =
     tie.close
     (tie.spec
-    element-copy-out-made
-    put-text-requires
-    enum-known-first
-    enum_told
-    same_length
-    returns
-    put-text-requires-2
-    enum-known-second
-    enum-told-2
-    same-length-2
-    returns-2
-    element-write-run
-    cast-t26
-    cast-t27
-    add-t28
-    sub-t29
-    cast-t30
-    same-length-3
-    returns-3)
+    bounds-run-6
+    put_text-first-requires
+    enum_known-first
+    enum_told-1
+    shape_of-bytes-in_default
+    returns-in_default
+    put_text-second-requires
+    enum_known-second
+    enum_told-in_default-second
+    shape_of-bytes-in_default-second
+    returns-in_default-second
+    bounds-run-6-2
+    overflow_cast-result
+    overflow_cast-result-2
+    overflow_add-result
+    overflow_sub-result
+    overflow_cast-result-3
+    shape_of-bytes
+    returns)

@@ -3,19 +3,18 @@ use borrow.Author.Rules.{rules}
 use Rattle.texts.proofs.put_part.Statement.{statement}
 use Rattle.texts.proofs.put_part.Tie as tie
 
-literal-span-requires : tie.Need-literal-span-requires
-literal-span-requires c κs = search rules
+literal_span-part-requires : tie.Need-literal_span-part-requires
+literal_span-part-requires c κs = search rules
 
-put-from-requires : tie.Need-put-from-requires
-put-from-requires c κs = search rules
+put_from-requires : tie.Need-put_from-requires
+put_from-requires c κs = search rules
 
-same_length : tie.Need-same-length
-same_length c = search rules
+shape_of-bytes : tie.Need-shape_of-bytes
+shape_of-bytes c = search rules
 
 returns : tie.Need-returns
 returns c =
-    let s = c.before.before.before.before.before.before.before in
-    rw (c.before.before.before.before.literal-span.ensures.is s.args.image.now) c.before.before.put-from.ensures
+    rw (c.literal_span-part.ensures.is c.args.image.now) c.put_from.ensures
 
 pub put_part_spec : {M : Type 1} → statement M
-put_part_spec = tie.close (tie.spec literal-span-requires put-from-requires same_length returns)
+put_part_spec = tie.close (tie.spec literal_span-part-requires put_from-requires shape_of-bytes returns)

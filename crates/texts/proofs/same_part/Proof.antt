@@ -7,38 +7,34 @@ use borrow.Author.Rules.{rules}
 use Rattle.texts.proofs.same_part.Statement.{statement}
 use Rattle.texts.proofs.same_part.Tie as tie
 
+returns-then-p-q : tie.Need-returns-then-p-q
+returns-then-p-q c = same_text_lem _ _ (ap (part_text _ _) c.if-p-q.true)
+
+literal_span-a-requires : tie.Need-literal_span-a-requires
+literal_span-a-requires c κs = search rules
+
+literal_span-b-requires : tie.Need-literal_span-b-requires
+literal_span-b-requires c κs = search rules
+
+returns-then-a-b : tie.Need-returns-then-a-b
+returns-then-a-b c =
+    literals_differ _ _ c.requires _ _ _ _ _ _ c.literal_span-a.ensures c.literal_span-b.ensures c.if-a-b.true
+
+same_bytes-requires : tie.Need-same_bytes-requires
+same_bytes-requires c κs = search rules
+
 returns : tie.Need-returns
-returns c = same_text_lem _ _ (ap (part_text _ _) c.if1.true)
-
-literal-span-requires : tie.Need-literal-span-requires
-literal-span-requires c κs = search rules
-
-literal-span-requires-2 : tie.Need-literal-span-requires-2
-literal-span-requires-2 c κs = search rules
-
-returns-2 : tie.Need-returns-2
-returns-2 c =
-    let second = c.before.before.before in
-    let first = second.before in
-    literals_differ _ _ first.before.before.before.requires _ _ _ _ _ _ first.literal-span.ensures second.literal-span2.ensures c.if2.true
-
-same-bytes-requires : tie.Need-same-bytes-requires
-same-bytes-requires c κs = search rules
-
-returns-3 : tie.Need-returns-3
-returns-3 c =
-    let second = c.before.before.before.before in
-    let first = second.before in
+returns c =
     c.same_bytes.ensures
-    ∙ literals_same _ _ first.before.before.before.requires _ _ _ _ _ _ first.literal-span.ensures second.literal-span2.ensures c.before.if2.false
+    ∙ literals_same _ _ c.requires _ _ _ _ _ _ c.literal_span-a.ensures c.literal_span-b.ensures c.if-a-b.false
 
 pub same_part_spec : {M : Type 1} → statement M
 same_part_spec =
     tie.close
     (tie.spec
-    returns
-    literal-span-requires
-    literal-span-requires-2
-    returns-2
-    same-bytes-requires
-    returns-3)
+    returns-then-p-q
+    literal_span-a-requires
+    literal_span-b-requires
+    returns-then-a-b
+    same_bytes-requires
+    returns)

@@ -4,28 +4,26 @@ use borrow.Author.Rules.{rules}
 use Rattle.texts.proofs.sources_of.Statement.{statement}
 use Rattle.texts.proofs.sources_of.Tie as tie
 
-image-span-requires : tie.Need-image-span-requires
-image-span-requires c κs = search rules
+image_span-first-requires : tie.Need-image_span-first-requires
+image_span-first-requires c κs = search rules
 
-cast-past : tie.Need-overflow-cast-past
-cast-past c = search rules
+overflow_cast-h : tie.Need-overflow_cast-h
+overflow_cast-h c = search rules
 
-past-requires : tie.Need-past-requires
-past-requires c κs = search rules
+past-built-requires : tie.Need-past-built-requires
+past-built-requires c κs = search rules
 
-sub-span-of : tie.Need-overflow-sub-span-of
-sub-span-of c = search rules
+overflow_sub-len : tie.Need-overflow_sub-len
+overflow_sub-len c = search rules
 
-span-of-requires : tie.Need-span-of-requires
-span-of-requires c κs = search rules
+span_of-second-requires : tie.Need-span_of-second-requires
+span_of-second-requires c κs = search rules
 
 returns : tie.Need-returns
 returns c =
-    let past = c.before.before in
-    let span = past.before.before in
-    sourced _ _ _ _ _ _ span.image-span.ensures (rw past.past.ensures at c.Span-of.ensures)
+    sourced _ _ _ _ _ _ c.image_span-first.ensures (rw c.past-built.ensures at c.span_of-second.ensures)
 
 pub sources_of_spec : {M : Type 1} → statement M
 sources_of_spec =
     tie.close
-    (tie.spec image-span-requires cast-past past-requires sub-span-of span-of-requires returns)
+    (tie.spec image_span-first-requires overflow_cast-h past-built-requires overflow_sub-len span_of-second-requires returns)
