@@ -128,7 +128,7 @@ class Names:
                 head = re.search(r"(?m)^" + re.escape(m.group(1)) + r"((?: \S+)+?) =", text)
                 if head:
                     where[head.group(1).split()[0]] = self.at[to]
-        for h in re.finditer(r"\((\w+) : tie\.([^\s()]+)[^()]*\)", text):
+        for h in re.finditer(r"\((\w+) : (?:tie|lts)\.([^\s()]+)(?:[^()]|\([^()]*\))*\)", text):
             if norm(h.group(2)) in self.places:
                 where[h.group(1)] = self.whole(h.group(2))
         only = set(where)
@@ -163,9 +163,9 @@ class Names:
             to = self.label(m.group(2))
             if to and (m.group(2).startswith("Need-") or m.group(2).startswith(("invariant", "decreases"))):
                 own[m.group(1)] = to[5:] if to.startswith("Need-") else to
-        for m in re.finditer(r"(?m)^(\S+) : (?:\{.*?\} → )?\((\w+) : tie\.([^\s()]+)[^()]*\)", text):
+        for m in re.finditer(r"(?m)^(\S+) : (?:\{.*?\} → )?\((\w+) : (?:tie|lts)\.([^\s()]+)(?:[^()]|\([^()]*\))*\)", text):
             self.helpers[m.group(1)] = self.whole(m.group(3)) if norm(m.group(3)) in self.places else m.group(3)
-        for m in re.finditer(r"(?m)^module _ \((\w+) : tie\.([^\s()]+)[^()]*\) where\n((?:  .*\n|\n)*)", text):
+        for m in re.finditer(r"(?m)^module _ \((\w+) : (?:tie|lts)\.([^\s()]+)(?:[^()]|\([^()]*\))*\) where\n((?:  .*\n|\n)*)", text):
             for n in re.finditer(r"(?m)^  (?:abbrev |unfoldable )*([\w-]+) :", m.group(3)):
                 self.helpers[n.group(1)] = m.group(2)
         blocks = []
@@ -180,11 +180,11 @@ class Names:
         for g in self.gone:
             text = re.sub(r"\n?[ \t]*(?<=[\s(])" + re.escape(g) + r"(?=[\s)])", "", text)
         def tie(m):
-            to = self.label(m.group(1))
-            if not to and m.group(1) not in ("spec", "close"):
-                said.append(m.group(1))
-            return "tie." + (to or m.group(1))
-        text = re.sub(r"\btie\.([^\s(){},;.]+)", tie, text)
+            to = self.label(m.group(2))
+            if not to and m.group(2) not in ("spec", "close"):
+                said.append(m.group(2))
+            return m.group(1) + "." + (to or m.group(2))
+        text = re.sub(r"\b(tie|lts)\.([^\s(){},;.]+)", tie, text)
         def name(m):
             return own.get(m.group(0), m.group(0))
         lines = []

@@ -109,7 +109,7 @@ module _ (from count : ℕ) (run words : List ℕ) (f : Fits run words) (since :
   pub take-full : 1024 < cells_of run + 1 + count → TriedWords false (items_taken from) run words run words
   take-full full bytes =
       refused (items_taken from) f
-      (rw (length-cells run words bytes, length-map (drop from (store_of run words bytes).pending) (item (cells_of run)), how_many bytes, lt-leb (cells_of run + suc count) 1024 (omega arith)))
+      (rw (length-cells run words bytes, length-map (drop from (store_of run words bytes).pending) (item (length (store_of run words bytes).cells)), how_many bytes, lt-leb (cells_of run + suc count) 1024 (omega arith)))
 
   -- the words once the head is written
   abbrev headed : List ℕ
@@ -137,7 +137,7 @@ module _ (from count : ℕ) (run words : List ℕ) (f : Fits run words) (since :
       let back = given_back words' bytes (fits_copied n from count run headed words' headed-fits copied) in
       record {
         did =
-            rw (length-cells run words bytes, length-map (drop from σ.pending) (item n), how_many bytes, le-leb (n + suc count) 1024 (omega arith))
+            rw (length-cells run words bytes, length-map (drop from σ.pending) (item (length σ.cells)), how_many bytes, le-leb (n + suc count) 1024 (omega arith))
             (ap some (sym (cells_set run' words' bytes (n + 1 + count) back.kept.fits.run_length
             ∙ ap₂ with_cells (cells_taken words' bytes room copied)
             (back.store ∙ ap (dropped from) (store_copied n from count run headed words' headed-fits copied bytes ∙ ap (with_cells _) (in_cells run words bytes (head_words count) (1792 + 4 * n) f (omega arith)))))));

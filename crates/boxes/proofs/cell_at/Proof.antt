@@ -4,75 +4,75 @@ use borrow.Author.Rules.{rules}
 use Rattle.boxes.proofs.cell_at.Statement.{statement}
 use Rattle.boxes.proofs.cell_at.Tie as tie
 
-element-copy-out-if1 : tie.Need-element-copy-out-if1
-element-copy-out-if1 c = search rules
+bounds-run-5 : tie.Need-bounds-run-5
+bounds-run-5 c = search rules
 
-mul-if2 : tie.Need-overflow-mul-if2
-mul-if2 c = search rules
+overflow_mul-i : tie.Need-overflow_mul-i
+overflow_mul-i c = search rules
 
-add-if2 : tie.Need-overflow-add-if2
-add-if2 c = search rules
+overflow_add-i : tie.Need-overflow_add-i
+overflow_add-i c = search rules
 
-mul-if2-2 : tie.Need-overflow-mul-if2-2
-mul-if2-2 c = search rules
+offset_bounds-words-i : tie.Need-offset_bounds-words-i
+offset_bounds-words-i c = search rules
 
-shared-slice-read-if2 : tie.Need-shared-slice-read-if2
-shared-slice-read-if2 c = search rules
+bounds-words-i : tie.Need-bounds-words-i
+bounds-words-i c = search rules
 
-mul-value-of : tie.Need-overflow-mul-value-of
-mul-value-of c = search rules
+overflow_mul-i-then-words-i-ne0 : tie.Need-overflow_mul-i-then-words-i-ne0
+overflow_mul-i-then-words-i-ne0 c = search rules
 
-add-value-of : tie.Need-overflow-add-value-of
-add-value-of c = search rules
+overflow_add-i-then-words-i-ne0 : tie.Need-overflow_add-i-then-words-i-ne0
+overflow_add-i-then-words-i-ne0 c = search rules
 
-mul-value-of-2 : tie.Need-overflow-mul-value-of-2
-mul-value-of-2 c = search rules
+offset_bounds-words-i-then-words-i-ne0 : tie.Need-offset_bounds-words-i-then-words-i-ne0
+offset_bounds-words-i-then-words-i-ne0 c = search rules
 
-shared-slice-read-value-of : tie.Need-shared-slice-read-value-of
-shared-slice-read-value-of c = search rules
+bounds-words-i-then-words-i-ne0 : tie.Need-bounds-words-i-then-words-i-ne0
+bounds-words-i-then-words-i-ne0 c = search rules
 
-mul-value-of-3 : tie.Need-overflow-mul-value-of-3
-mul-value-of-3 c = search rules
+overflow_mul-i-then-words-i-ne0-2 : tie.Need-overflow_mul-i-then-words-i-ne0-2
+overflow_mul-i-then-words-i-ne0-2 c = search rules
 
-add-value-of-2 : tie.Need-overflow-add-value-of-2
-add-value-of-2 c = search rules
+overflow_add-i-then-words-i-ne0-2 : tie.Need-overflow_add-i-then-words-i-ne0-2
+overflow_add-i-then-words-i-ne0-2 c = search rules
 
-mul-value-of-4 : tie.Need-overflow-mul-value-of-4
-mul-value-of-4 c = search rules
+offset_bounds-words-i-then-words-i-ne0-2 : tie.Need-offset_bounds-words-i-then-words-i-ne0-2
+offset_bounds-words-i-then-words-i-ne0-2 c = search rules
 
-shared-slice-read-value-of-2 : tie.Need-shared-slice-read-value-of-2
-shared-slice-read-value-of-2 c = search rules
+bounds-words-i-then-words-i-ne0-2 : tie.Need-bounds-words-i-then-words-i-ne0-2
+bounds-words-i-then-words-i-ne0-2 c = search rules
 
-value-of-requires : tie.Need-value-of-requires
-value-of-requires c κs = search rules
+value_of-requires : tie.Need-value_of-requires
+value_of-requires c κs = search rules
 
-returns : tie.Need-returns
-returns c = rw c.value_of_lem.ensures (value_owned _ _ _ c.before.before.before.before.before.if1.true c.before.before.before.if2.true)
+returns-then-words-i-ne0 : tie.Need-returns-then-words-i-ne0
+returns-then-words-i-ne0 c = rw c.value_of.ensures (value_owned _ _ _ c.if-i-run.true c.if-words-i-ne0.true)
 
-returns-2 : tie.Need-returns-2
-returns-2 c = value_head _ _ _ c.before.before.if1.true c.if2.false
+returns-else-words-i-ne0 : tie.Need-returns-else-words-i-ne0
+returns-else-words-i-ne0 c = value_head _ _ _ c.if-i-run.true c.if-words-i-ne0.false
 
-returns-3 : tie.Need-returns-3
-returns-3 c = value_past _ _ _ c.if1.false
+returns-else-i-run : tie.Need-returns-else-i-run
+returns-else-i-run c = value_past _ _ _ c.if-i-run.false
 
 pub cell_at_spec : {M : Type 1} → statement M
 cell_at_spec =
     tie.close
     (tie.spec
-    element-copy-out-if1
-    mul-if2
-    add-if2
-    mul-if2-2
-    shared-slice-read-if2
-    mul-value-of
-    add-value-of
-    mul-value-of-2
-    shared-slice-read-value-of
-    mul-value-of-3
-    add-value-of-2
-    mul-value-of-4
-    shared-slice-read-value-of-2
-    value-of-requires
-    returns
-    returns-2
-    returns-3)
+    bounds-run-5
+    overflow_mul-i
+    overflow_add-i
+    offset_bounds-words-i
+    bounds-words-i
+    overflow_mul-i-then-words-i-ne0
+    overflow_add-i-then-words-i-ne0
+    offset_bounds-words-i-then-words-i-ne0
+    bounds-words-i-then-words-i-ne0
+    overflow_mul-i-then-words-i-ne0-2
+    overflow_add-i-then-words-i-ne0-2
+    offset_bounds-words-i-then-words-i-ne0-2
+    bounds-words-i-then-words-i-ne0-2
+    value_of-requires
+    returns-then-words-i-ne0
+    returns-else-words-i-ne0
+    returns-else-i-run)

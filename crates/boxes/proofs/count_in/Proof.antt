@@ -4,55 +4,55 @@ use borrow.Author.Rules.{rules}
 use Rattle.boxes.proofs.count_in.Statement.{statement}
 use Rattle.boxes.proofs.count_in.Tie as tie
 
-element-copy-out-if1 : tie.Need-element-copy-out-if1
-element-copy-out-if1 c = search rules
+bounds-run-5 : tie.Need-bounds-run-5
+bounds-run-5 c = search rules
 
-mul-if2 : tie.Need-overflow-mul-if2
-mul-if2 c = search rules
+overflow_mul-owner : tie.Need-overflow_mul-owner
+overflow_mul-owner c = search rules
 
-add-if2 : tie.Need-overflow-add-if2
-add-if2 c = search rules
+overflow_add-owner : tie.Need-overflow_add-owner
+overflow_add-owner c = search rules
 
-mul-if2-2 : tie.Need-overflow-mul-if2-2
-mul-if2-2 c = search rules
+offset_bounds-words-owner : tie.Need-offset_bounds-words-owner
+offset_bounds-words-owner c = search rules
 
-shared-slice-read-if2 : tie.Need-shared-slice-read-if2
-shared-slice-read-if2 c = search rules
+bounds-words-owner : tie.Need-bounds-words-owner
+bounds-words-owner c = search rules
 
-mul-result : tie.Need-overflow-mul-result
-mul-result c = search rules
+overflow_mul-result : tie.Need-overflow_mul-result
+overflow_mul-result c = search rules
 
-add-result : tie.Need-overflow-add-result
-add-result c = search rules
+overflow_add-result : tie.Need-overflow_add-result
+overflow_add-result c = search rules
 
-mul-result-2 : tie.Need-overflow-mul-result-2
-mul-result-2 c = search rules
+offset_bounds-words-owner-then-words-owner-eq0 : tie.Need-offset_bounds-words-owner-then-words-owner-eq0
+offset_bounds-words-owner-then-words-owner-eq0 c = search rules
 
-shared-slice-read-result : tie.Need-shared-slice-read-result
-shared-slice-read-result c = search rules
+bounds-words-owner-then-words-owner-eq0 : tie.Need-bounds-words-owner-then-words-owner-eq0
+bounds-words-owner-then-words-owner-eq0 c = search rules
 
-returns : tie.Need-returns
-returns c = count_head _ _ _ c.before.before.before.if1.true c.before.if2.true
+returns-then-words-owner-eq0 : tie.Need-returns-then-words-owner-eq0
+returns-then-words-owner-eq0 c = count_head _ _ _ c.if-owner-run.true c.if-words-owner-eq0.true
 
-returns-2 : tie.Need-returns-2
-returns-2 c = count_owned _ _ _ c.before.before.if1.true c.if2.false
+returns-else-words-owner-eq0 : tie.Need-returns-else-words-owner-eq0
+returns-else-words-owner-eq0 c = count_owned _ _ _ c.if-owner-run.true c.if-words-owner-eq0.false
 
-returns-3 : tie.Need-returns-3
-returns-3 c = count_past _ _ _ c.if1.false
+returns-else-owner-run : tie.Need-returns-else-owner-run
+returns-else-owner-run c = count_past _ _ _ c.if-owner-run.false
 
 pub count_in_spec : {M : Type 1} → statement M
 count_in_spec =
     tie.close
     (tie.spec
-    element-copy-out-if1
-    mul-if2
-    add-if2
-    mul-if2-2
-    shared-slice-read-if2
-    mul-result
-    add-result
-    mul-result-2
-    shared-slice-read-result
-    returns
-    returns-2
-    returns-3)
+    bounds-run-5
+    overflow_mul-owner
+    overflow_add-owner
+    offset_bounds-words-owner
+    bounds-words-owner
+    overflow_mul-result
+    overflow_add-result
+    offset_bounds-words-owner-then-words-owner-eq0
+    bounds-words-owner-then-words-owner-eq0
+    returns-then-words-owner-eq0
+    returns-else-words-owner-eq0
+    returns-else-owner-run)

@@ -6,75 +6,75 @@ use borrow.Author.Rules.{rules}
 use Rattle.boxes.proofs.enter_field.Statement.{statement}
 use Rattle.boxes.proofs.enter_field.Tie as tie
 
-element-copy-out-cells : tie.Need-element-copy-out-cells
-element-copy-out-cells c = search rules
+bounds-run-5 : tie.Need-bounds-run-5
+bounds-run-5 c = search rules
+
+returns-then-cells-ge1024 : tie.Need-returns-then-cells-ge1024
+returns-then-cells-ge1024 c = enter_full _ _ _ _ _ c.requires c.if-cells-ge1024.true
+
+overflow_mul-at : tie.Need-overflow_mul-at
+overflow_mul-at c = search rules
+
+overflow_add-at : tie.Need-overflow_add-at
+overflow_add-at c = search rules
+
+put_slot-requires : tie.Need-put_slot-requires
+put_slot-requires c κs = search rules
+
+overflow_mul-words : tie.Need-overflow_mul-words
+overflow_mul-words c = search rules
+
+overflow_add-words : tie.Need-overflow_add-words
+overflow_add-words c = search rules
+
+overflow_add-words-2 : tie.Need-overflow_add-words-2
+overflow_add-words-2 c = search rules
+
+offset_bounds-words-at : tie.Need-offset_bounds-words-at
+offset_bounds-words-at c = search rules
+
+bounds-words-at : tie.Need-bounds-words-at
+bounds-words-at c = search rules
+
+overflow_add-words-3 : tie.Need-overflow_add-words-3
+overflow_add-words-3 c = search rules
+
+offset_bounds-words-at-2 : tie.Need-offset_bounds-words-at-2
+offset_bounds-words-at-2 c = search rules
+
+bounds-words-at-2 : tie.Need-bounds-words-at-2
+bounds-words-at-2 c = simp length-set (omega arith)
+
+overflow_add-run : tie.Need-overflow_add-run
+overflow_add-run c = search rules
+
+bounds-run-5-2 : tie.Need-bounds-run-5-2
+bounds-run-5-2 c = search rules
+
+shape_of-words : tie.Need-shape_of-words
+shape_of-words c = search rules
 
 returns : tie.Need-returns
-returns c = enter_full _ _ _ _ _ c.before.before.before.requires c.if1.true
-
-mul_at : tie.Need-overflow-mul-at
-mul_at c = search rules
-
-add_at : tie.Need-overflow-add-at
-add_at c = search rules
-
-put-slot-requires : tie.Need-put-slot-requires
-put-slot-requires c κs = search rules
-
-mul_words : tie.Need-overflow-mul-words
-mul_words c = search rules
-
-add_words : tie.Need-overflow-add-words
-add_words c = search rules
-
-add-words-2 : tie.Need-overflow-add-words-2
-add-words-2 c = search rules
-
-mul-words-2 : tie.Need-overflow-mul-words-2
-mul-words-2 c = search rules
-
-slice-write-words : tie.Need-slice-write-words
-slice-write-words c = search rules
-
-add-words-3 : tie.Need-overflow-add-words-3
-add-words-3 c = search rules
-
-mul-words-3 : tie.Need-overflow-mul-words-3
-mul-words-3 c = search rules
-
-slice-write-words-2 : tie.Need-slice-write-words-2
-slice-write-words-2 c = simp length-set (omega arith)
-
-add-run : tie.Need-overflow-add-run
-add-run c = search rules
-
-element-write-run : tie.Need-element-write-run
-element-write-run c = search rules
-
-same_length : tie.Need-same-length
-same_length c = search rules
-
-returns-2 : tie.Need-returns-2
-returns-2 c = enter_made _ _ _ _ _ c.before.before.before.before.before.before.before.requires _ c.before.before.before.before.if1.false c.before.before.put-slot.ensures
+returns c = enter_made _ _ _ _ _ c.requires _ c.if-cells-ge1024.false c.put_slot.ensures
 
 pub enter_field_spec : {M : Type 1} → statement M
 enter_field_spec =
     tie.close
     (tie.spec
-    element-copy-out-cells
-    returns
-    mul_at
-    add_at
-    put-slot-requires
-    mul_words
-    add_words
-    add-words-2
-    mul-words-2
-    slice-write-words
-    add-words-3
-    mul-words-3
-    slice-write-words-2
-    add-run
-    element-write-run
-    same_length
-    returns-2)
+    bounds-run-5
+    returns-then-cells-ge1024
+    overflow_mul-at
+    overflow_add-at
+    put_slot-requires
+    overflow_mul-words
+    overflow_add-words
+    overflow_add-words-2
+    offset_bounds-words-at
+    bounds-words-at
+    overflow_add-words-3
+    offset_bounds-words-at-2
+    bounds-words-at-2
+    overflow_add-run
+    bounds-run-5-2
+    shape_of-words
+    returns)

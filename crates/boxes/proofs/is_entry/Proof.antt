@@ -4,55 +4,55 @@ use borrow.Author.Rules.{rules}
 use Rattle.boxes.proofs.is_entry.Statement.{statement}
 use Rattle.boxes.proofs.is_entry.Tie as tie
 
-mul-what : tie.Need-overflow-mul-what
-mul-what c = search rules
+overflow_mul-what : tie.Need-overflow_mul-what
+overflow_mul-what c = search rules
 
-add-what : tie.Need-overflow-add-what
-add-what c = search rules
+overflow_add-what : tie.Need-overflow_add-what
+overflow_add-what c = search rules
 
-mul-what-2 : tie.Need-overflow-mul-what-2
-mul-what-2 c = search rules
+offset_bounds-words-i : tie.Need-offset_bounds-words-i
+offset_bounds-words-i c = search rules
 
-shared-slice-read-what : tie.Need-shared-slice-read-what
-shared-slice-read-what c = search rules
+bounds-words-i : tie.Need-bounds-words-i
+bounds-words-i c = search rules
+
+returns-then-what-lt2 : tie.Need-returns-then-what-lt2
+returns-then-what-lt2 c = no_entry _ _ _ _ _ _ c.if-what-lt2.true
+
+returns-then-what-owner : tie.Need-returns-then-what-owner
+returns-then-what-owner c = others_entry _ _ _ _ _ _ c.if-what-lt2.false c.if-what-owner.true
+
+overflow_mul-i : tie.Need-overflow_mul-i
+overflow_mul-i c = search rules
+
+overflow_add-i : tie.Need-overflow_add-i
+overflow_add-i c = search rules
+
+offset_bounds-words-i-2 : tie.Need-offset_bounds-words-i-2
+offset_bounds-words-i-2 c = search rules
+
+bounds-words-i-2 : tie.Need-bounds-words-i-2
+bounds-words-i-2 c = search rules
+
+same_part-requires : tie.Need-same_part-requires
+same_part-requires c κs = search rules
 
 returns : tie.Need-returns
-returns c = no_entry _ _ _ _ _ _ c.if1.true
-
-returns-2 : tie.Need-returns-2
-returns-2 c = others_entry _ _ _ _ _ _ c.before.if1.false c.if2.true
-
-mul-same-part : tie.Need-overflow-mul-same-part
-mul-same-part c = search rules
-
-add-same-part : tie.Need-overflow-add-same-part
-add-same-part c = search rules
-
-mul-same-part-2 : tie.Need-overflow-mul-same-part-2
-mul-same-part-2 c = search rules
-
-shared-slice-read-same-part : tie.Need-shared-slice-read-same-part
-shared-slice-read-same-part c = search rules
-
-same-part-requires : tie.Need-same-part-requires
-same-part-requires c κs = search rules
-
-returns-3 : tie.Need-returns-3
-returns-3 c = its_entry _ _ _ _ _ _ _ c.before.before.before.if1.false c.before.before.if2.false c.same-part.ensures
+returns c = its_entry _ _ _ _ _ _ _ c.if-what-lt2.false c.if-what-owner.false c.same_part.ensures
 
 pub is_entry_spec : {M : Type 1} → statement M
 is_entry_spec =
     tie.close
     (tie.spec
-    mul-what
-    add-what
-    mul-what-2
-    shared-slice-read-what
-    returns
-    returns-2
-    mul-same-part
-    add-same-part
-    mul-same-part-2
-    shared-slice-read-same-part
-    same-part-requires
-    returns-3)
+    overflow_mul-what
+    overflow_add-what
+    offset_bounds-words-i
+    bounds-words-i
+    returns-then-what-lt2
+    returns-then-what-owner
+    overflow_mul-i
+    overflow_add-i
+    offset_bounds-words-i-2
+    bounds-words-i-2
+    same_part-requires
+    returns)

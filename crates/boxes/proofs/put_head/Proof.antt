@@ -7,47 +7,47 @@ use borrow.Author.Rules.{rules}
 use Rattle.boxes.proofs.put_head.Statement.{statement}
 use Rattle.boxes.proofs.put_head.Tie as tie
 
-mul_at : tie.Need-overflow-mul-at
-mul_at c = search rules
+overflow_mul-at : tie.Need-overflow_mul-at
+overflow_mul-at c = search rules
 
-add_at : tie.Need-overflow-add-at
-add_at c = search rules
+overflow_add-at : tie.Need-overflow_add-at
+overflow_add-at c = search rules
 
-mul_words : tie.Need-overflow-mul-words
-mul_words c = search rules
+offset_bounds-words-at : tie.Need-offset_bounds-words-at
+offset_bounds-words-at c = search rules
 
-slice-write-words : tie.Need-slice-write-words
-slice-write-words c = search rules
+bounds-words-at : tie.Need-bounds-words-at
+bounds-words-at c = search rules
 
-add_words : tie.Need-overflow-add-words
-add_words c = search rules
+overflow_add-words : tie.Need-overflow_add-words
+overflow_add-words c = search rules
 
-mul-words-2 : tie.Need-overflow-mul-words-2
-mul-words-2 c = search rules
+offset_bounds-words-at-2 : tie.Need-offset_bounds-words-at-2
+offset_bounds-words-at-2 c = search rules
 
-slice-write-words-2 : tie.Need-slice-write-words-2
-slice-write-words-2 c = simp length-set (omega arith)
+bounds-words-at-2 : tie.Need-bounds-words-at-2
+bounds-words-at-2 c = simp length-set (omega arith)
 
-add-words-2 : tie.Need-overflow-add-words-2
-add-words-2 c = search rules
+overflow_add-words-2 : tie.Need-overflow_add-words-2
+overflow_add-words-2 c = search rules
 
-mul-words-3 : tie.Need-overflow-mul-words-3
-mul-words-3 c = search rules
+offset_bounds-words-at-3 : tie.Need-offset_bounds-words-at-3
+offset_bounds-words-at-3 c = search rules
 
-slice-write-words-3 : tie.Need-slice-write-words-3
-slice-write-words-3 c = simp length-set (omega arith)
+bounds-words-at-3 : tie.Need-bounds-words-at-3
+bounds-words-at-3 c = simp length-set (omega arith)
 
-add-words-3 : tie.Need-overflow-add-words-3
-add-words-3 c = search rules
+overflow_add-words-3 : tie.Need-overflow_add-words-3
+overflow_add-words-3 c = search rules
 
-mul-words-4 : tie.Need-overflow-mul-words-4
-mul-words-4 c = search rules
+offset_bounds-words-at-4 : tie.Need-offset_bounds-words-at-4
+offset_bounds-words-at-4 c = search rules
 
-slice-write-words-4 : tie.Need-slice-write-words-4
-slice-write-words-4 c = simp length-set (omega arith)
+bounds-words-at-4 : tie.Need-bounds-words-at-4
+bounds-words-at-4 c = simp length-set (omega arith)
 
-same_length : tie.Need-same-length
-same_length c = search rules
+shape_of-words : tie.Need-shape_of-words
+shape_of-words c = search rules
 
 returns : tie.Need-returns
 returns c = stores_4 c.args.words.now (1792 + 4 * c.args.i) c.args.count 0 0 0
@@ -56,18 +56,18 @@ pub put_head_spec : {M : Type 1} → statement M
 put_head_spec =
     tie.close
     (tie.spec
-    mul_at
-    add_at
-    mul_words
-    slice-write-words
-    add_words
-    mul-words-2
-    slice-write-words-2
-    add-words-2
-    mul-words-3
-    slice-write-words-3
-    add-words-3
-    mul-words-4
-    slice-write-words-4
-    same_length
+    overflow_mul-at
+    overflow_add-at
+    offset_bounds-words-at
+    bounds-words-at
+    overflow_add-words
+    offset_bounds-words-at-2
+    bounds-words-at-2
+    overflow_add-words-2
+    offset_bounds-words-at-3
+    bounds-words-at-3
+    overflow_add-words-3
+    offset_bounds-words-at-4
+    bounds-words-at-4
+    shape_of-words
     returns)

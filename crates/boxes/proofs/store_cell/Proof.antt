@@ -4,55 +4,55 @@ use borrow.Author.Rules.{rules}
 use Rattle.boxes.proofs.store_cell.Statement.{statement}
 use Rattle.boxes.proofs.store_cell.Tie as tie
 
-element-copy-out-if1 : tie.Need-element-copy-out-if1
-element-copy-out-if1 c = search rules
+bounds-run-5 : tie.Need-bounds-run-5
+bounds-run-5 c = search rules
 
-mul-if2 : tie.Need-overflow-mul-if2
-mul-if2 c = search rules
+overflow_mul-i : tie.Need-overflow_mul-i
+overflow_mul-i c = search rules
 
-add-if2 : tie.Need-overflow-add-if2
-add-if2 c = search rules
+overflow_add-i : tie.Need-overflow_add-i
+overflow_add-i c = search rules
 
-mul-if2-2 : tie.Need-overflow-mul-if2-2
-mul-if2-2 c = search rules
+offset_bounds-words-i : tie.Need-offset_bounds-words-i
+offset_bounds-words-i c = search rules
 
-slice-read-if2 : tie.Need-slice-read-if2
-slice-read-if2 c = search rules
+bounds-words-i : tie.Need-bounds-words-i
+bounds-words-i c = search rules
 
-mul-put-slot : tie.Need-overflow-mul-put-slot
-mul-put-slot c = search rules
+overflow_mul-i-then-words-i-ne0 : tie.Need-overflow_mul-i-then-words-i-ne0
+overflow_mul-i-then-words-i-ne0 c = search rules
 
-add-put-slot : tie.Need-overflow-add-put-slot
-add-put-slot c = search rules
+overflow_add-i-then-words-i-ne0 : tie.Need-overflow_add-i-then-words-i-ne0
+overflow_add-i-then-words-i-ne0 c = search rules
 
-put-slot-requires : tie.Need-put-slot-requires
-put-slot-requires c κs = search rules
+put_slot-requires : tie.Need-put_slot-requires
+put_slot-requires c κs = search rules
 
-same_length : tie.Need-same-length
-same_length c = search rules
+shape_of-words : tie.Need-shape_of-words
+shape_of-words c = search rules
 
-returns : tie.Need-returns
-returns c = store_owned _ _ _ _ c.before.before.before.before.before.before.before.before.before.requires _ c.before.before.before.before.before.before.if1.true c.before.before.before.before.if2.true c.before.before.put-slot.ensures
+returns-then-words-i-ne0 : tie.Need-returns-then-words-i-ne0
+returns-then-words-i-ne0 c = store_owned _ _ _ _ c.requires _ c.if-i-run.true c.if-words-i-ne0.true c.put_slot.ensures
 
-returns-2 : tie.Need-returns-2
-returns-2 c = store_head _ _ _ _ c.before.before.before.before.before.requires c.before.before.if1.true c.if2.false
+returns-else-words-i-ne0 : tie.Need-returns-else-words-i-ne0
+returns-else-words-i-ne0 c = store_head _ _ _ _ c.requires c.if-i-run.true c.if-words-i-ne0.false
 
-returns-3 : tie.Need-returns-3
-returns-3 c = store_past _ _ _ _ c.before.before.before.requires c.if1.false
+returns-else-i-run : tie.Need-returns-else-i-run
+returns-else-i-run c = store_past _ _ _ _ c.requires c.if-i-run.false
 
 pub store_cell_spec : {M : Type 1} → statement M
 store_cell_spec =
     tie.close
     (tie.spec
-    element-copy-out-if1
-    mul-if2
-    add-if2
-    mul-if2-2
-    slice-read-if2
-    mul-put-slot
-    add-put-slot
-    put-slot-requires
-    same_length
-    returns
-    returns-2
-    returns-3)
+    bounds-run-5
+    overflow_mul-i
+    overflow_add-i
+    offset_bounds-words-i
+    bounds-words-i
+    overflow_mul-i-then-words-i-ne0
+    overflow_add-i-then-words-i-ne0
+    put_slot-requires
+    shape_of-words
+    returns-then-words-i-ne0
+    returns-else-words-i-ne0
+    returns-else-i-run)

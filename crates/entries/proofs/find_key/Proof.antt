@@ -7,59 +7,59 @@ use borrow.Author.Rules.{rules}
 use Rattle.entries.proofs.find_key.Statement.{statement}
 use Rattle.entries.proofs.find_key.Tie as tie
 
-abbrev invariant-loop : tie.invariant-loop
-invariant-loop image h words from to key i₀ i = key_from image h key to words from ≡ key_from image h key to words i
+abbrev invariant-loop-i : tie.invariant-loop-i
+invariant-loop-i image h words from to key i₀ i = key_from image h key to words from ≡ key_from image h key to words i
 
-abbrev decreases-loop : tie.decreases-loop
-decreases-loop image h words from to key i₀ i = to - i
+abbrev decreases-loop-i : tie.decreases-loop-i
+decreases-loop-i image h words from to key i₀ i = to - i
 
-loop-holds : tie.Need-loop-init invariant-loop decreases-loop
-loop-holds c = refl
+loop-i-init : tie.Need-loop-i-init invariant-loop-i decreases-loop-i
+loop-i-init c = refl
 
-mul-same-part : tie.Need-overflow-mul-same-part invariant-loop decreases-loop
-mul-same-part c = search rules
+overflow_mul-i : tie.Need-overflow_mul-i invariant-loop-i decreases-loop-i
+overflow_mul-i c = search rules
 
-add-same-part : tie.Need-overflow-add-same-part invariant-loop decreases-loop
-add-same-part c = search rules
+overflow_add-i : tie.Need-overflow_add-i invariant-loop-i decreases-loop-i
+overflow_add-i c = search rules
 
-mul-same-part-2 : tie.Need-overflow-mul-same-part-2 invariant-loop decreases-loop
-mul-same-part-2 c = search rules
+offset_bounds-words-i : tie.Need-offset_bounds-words-i invariant-loop-i decreases-loop-i
+offset_bounds-words-i c = search rules
 
-shared-slice-read-same-part : tie.Need-shared-slice-read-same-part invariant-loop decreases-loop
-shared-slice-read-same-part c = search rules
+bounds-words-i : tie.Need-bounds-words-i invariant-loop-i decreases-loop-i
+bounds-words-i c = search rules
 
-same-part-requires : tie.Need-same-part-requires invariant-loop decreases-loop
-same-part-requires c κs = search rules
+same_part-requires : tie.Need-same_part-requires invariant-loop-i decreases-loop-i
+same_part-requires c κs = search rules
 
-returns : tie.Need-returns invariant-loop decreases-loop
-returns c = sym (ap found_of (c.before.before.before.before.loop.invariant ∙ key_turn _ _ _ _ _ _ _ c.before.before.before.loop-test.true (sym c.if1.true ∙ c.before.same-part.ensures)))
+returns-then-same_part : tie.Need-returns-then-same_part invariant-loop-i decreases-loop-i
+returns-then-same_part c = sym (ap found_of (c.loop-i.invariant ∙ key_turn _ _ _ _ _ _ _ c.loop-i-test.true (sym c.if-same_part.true ∙ c.same_part.ensures)))
 
-add-i : tie.Need-overflow-add-i invariant-loop decreases-loop
-add-i c = search rules
+overflow_add-i-in-loop-i : tie.Need-overflow_add-i-in-loop-i invariant-loop-i decreases-loop-i
+overflow_add-i-in-loop-i c = search rules
 
-loop-less : tie.Need-loop-smaller invariant-loop decreases-loop
-loop-less c = search rules
+loop-i-smaller : tie.Need-loop-i-smaller invariant-loop-i decreases-loop-i
+loop-i-smaller c = search rules
 
-loop-again : tie.Need-loop-preserved invariant-loop decreases-loop
-loop-again c = c.before.before.before.before.loop.invariant ∙ key_turn _ _ _ _ _ _ _ c.before.before.before.loop-test.true (sym c.if1.false ∙ c.before.same-part.ensures)
+loop-i-preserved : tie.Need-loop-i-preserved invariant-loop-i decreases-loop-i
+loop-i-preserved c = c.loop-i.invariant ∙ key_turn _ _ _ _ _ _ _ c.loop-i-test.true (sym c.if-same_part.false ∙ c.same_part.ensures)
 
-returns-2 : tie.Need-returns-2 invariant-loop decreases-loop
-returns-2 c = sym (ap found_of (c.before.loop.invariant ∙ key_none _ _ _ _ _ _ c.loop-test.false))
+returns : tie.Need-returns invariant-loop-i decreases-loop-i
+returns c = sym (ap found_of (c.loop-i.invariant ∙ key_none _ _ _ _ _ _ c.loop-i-test.false))
 
 pub find_key_spec : {M : Type 1} → statement M
 find_key_spec =
     tie.close
     (tie.spec
-    invariant-loop
-    decreases-loop
-    loop-holds
-    mul-same-part
-    add-same-part
-    mul-same-part-2
-    shared-slice-read-same-part
-    same-part-requires
-    returns
-    add-i
-    loop-less
-    loop-again
-    returns-2)
+    invariant-loop-i
+    decreases-loop-i
+    loop-i-init
+    overflow_mul-i
+    overflow_add-i
+    offset_bounds-words-i
+    bounds-words-i
+    same_part-requires
+    returns-then-same_part
+    overflow_add-i-in-loop-i
+    loop-i-smaller
+    loop-i-preserved
+    returns)
