@@ -55,6 +55,9 @@ pub fn rebind(words: &mut [u64], run: &[u64; 16], i: usize, v: Value)
     }
 }
 
+// The bindings that there are at most.
+const MOST_BINDINGS: usize = 256;
+
 // A name bound in the innermost scope: a binding of that scope is replaced; false where a new one would be the 257th.
 pub fn declare(words: &mut [u64], run: &mut [u64; 16], name: u16, v: Value) -> bool
     requires { Fits run.old words.old }
@@ -66,7 +69,7 @@ pub fn declare(words: &mut [u64], run: &mut [u64; 16], name: u16, v: Value) -> b
         put_slot(words, 3 * at, v);
         return true;
     }
-    if 256 <= bound {
+    if MOST_BINDINGS <= bound {
         return false;
     }
     put_slot(words, 3 * bound, v);

@@ -115,13 +115,16 @@ pub fn put_head(words: &mut [u64], i: usize, count: u64)
     words[at + 3] = 0;
 }
 
+// The cells that there are at most.
+const MOST_CELLS: u64 = 1024;
+
 // A new field of an object, in one cell; false where there is none left.
 pub fn enter_field(words: &mut [u64], run: &mut [u64; 16], owner: u32, key: u64, v: Value) -> bool
     requires { Fits run.old words.old }
     ensures { TriedWords result (field_entered owner key v) run.old words.old run.new words.new }
 {
     let cells = run[CELLS];
-    if 1024 <= cells {
+    if MOST_CELLS <= cells {
         return false;
     }
     let at = 1792 + 4 * cells as usize;

@@ -35,6 +35,9 @@ fn copy_pending(words: &mut [u64], at: usize, to: usize)
     words[to + 1] = words[from + 1];
 }
 
+// The cells that there are at most.
+const MOST_CELLS: usize = 1024;
+
 // The pending item `at` entered under a key: in place of the value that the key has, or in the next cell, `end`. Gives where the object then ends, past 1,024
 // where there is no cell left.
 pub fn put_entry(
@@ -54,7 +57,7 @@ pub fn put_entry(
         copy_pending(words, at, 1792 + 4 * i);
         return end;
     }
-    if 1024 <= end {
+    if MOST_CELLS <= end {
         return 1025;
     }
     let to = 1792 + 4 * end;

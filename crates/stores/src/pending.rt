@@ -9,13 +9,16 @@ use crate::run::PENDING;
 use rules::Value;
 use slots::{put_slot, value_of};
 
+// The pending items that there are at most.
+const MOST_PENDING: u64 = 512;
+
 // One pending item more; false where there are 512.
 pub fn push(words: &mut [u64], run: &mut [u64; 16], v: Value) -> bool
     requires { Fits run.old words.old }
     ensures { TriedWords result (pushed_if_room v) run.old words.old run.new words.new }
 {
     let count = run[PENDING];
-    if 512 <= count {
+    if MOST_PENDING <= count {
         return false;
     }
     put_slot(words, 768 + 2 * count as usize, v);

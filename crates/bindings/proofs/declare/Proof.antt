@@ -38,11 +38,11 @@ returns-in-At c = declare_again _ _ _ _ c.last_of-found.ensures _ c.requires _ _
 enum_told-1 : tie.Need-enum_told-1
 enum_told-1 c = search rules
 
-shape_of-words-then-bound-ge256 : tie.Need-shape_of-words-then-bound-ge256
-shape_of-words-then-bound-ge256 c = search rules
+shape_of-words-then-bound-ge-MOST_BINDINGS : tie.Need-shape_of-words-then-bound-ge-MOST_BINDINGS
+shape_of-words-then-bound-ge-MOST_BINDINGS c = search rules
 
-returns-then-bound-ge256 : tie.Need-returns-then-bound-ge256
-returns-then-bound-ge256 c = declare_full _ _ _ _ c.last_of-found.ensures _ c.requires c.in_default.is c.if-bound-ge256.true
+returns-then-bound-ge-MOST_BINDINGS : tie.Need-returns-then-bound-ge-MOST_BINDINGS
+returns-then-bound-ge-MOST_BINDINGS c = declare_full _ _ _ _ c.last_of-found.ensures _ c.requires c.in_default.is c.if-bound-ge-MOST_BINDINGS.true
 
 overflow_mul-bound : tie.Need-overflow_mul-bound
 overflow_mul-bound c = search rules
@@ -72,7 +72,7 @@ shape_of-words : tie.Need-shape_of-words
 shape_of-words c = search rules
 
 returns : tie.Need-returns
-returns c = declare_new _ _ _ _ c.last_of-found.ensures _ c.requires _ c.in_default.is c.if-bound-ge256.false c.put_slot-2.ensures
+returns c = declare_new _ _ _ _ c.last_of-found.ensures _ c.requires _ c.in_default.is c.if-bound-ge-MOST_BINDINGS.false c.put_slot-2.ensures
 
 pub declare_spec : {M : Type 1} → statement M
 declare_spec =
@@ -87,8 +87,8 @@ declare_spec =
     shape_of-words-in-At
     returns-in-At
     enum_told-1
-    shape_of-words-then-bound-ge256
-    returns-then-bound-ge256
+    shape_of-words-then-bound-ge-MOST_BINDINGS
+    returns-then-bound-ge-MOST_BINDINGS
     overflow_mul-bound
     put_slot-requires-2
     overflow_mul-words

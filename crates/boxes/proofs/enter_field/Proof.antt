@@ -9,8 +9,8 @@ use Rattle.boxes.proofs.enter_field.Tie as tie
 bounds-run-5 : tie.Need-bounds-run-5
 bounds-run-5 c = search rules
 
-returns-then-cells-ge1024 : tie.Need-returns-then-cells-ge1024
-returns-then-cells-ge1024 c = enter_full _ _ _ _ _ c.requires c.if-cells-ge1024.true
+returns-then-cells-ge-MOST_CELLS : tie.Need-returns-then-cells-ge-MOST_CELLS
+returns-then-cells-ge-MOST_CELLS c = enter_full _ _ _ _ _ c.requires c.if-cells-ge-MOST_CELLS.true
 
 overflow_mul-at : tie.Need-overflow_mul-at
 overflow_mul-at c = search rules
@@ -55,14 +55,14 @@ shape_of-words : tie.Need-shape_of-words
 shape_of-words c = search rules
 
 returns : tie.Need-returns
-returns c = enter_made _ _ _ _ _ c.requires _ c.if-cells-ge1024.false c.put_slot.ensures
+returns c = enter_made _ _ _ _ _ c.requires _ c.if-cells-ge-MOST_CELLS.false c.put_slot.ensures
 
 pub enter_field_spec : {M : Type 1} → statement M
 enter_field_spec =
     tie.close
     (tie.spec
     bounds-run-5
-    returns-then-cells-ge1024
+    returns-then-cells-ge-MOST_CELLS
     overflow_mul-at
     overflow_add-at
     put_slot-requires

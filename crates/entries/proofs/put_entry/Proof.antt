@@ -49,14 +49,14 @@ returns-in-At c =
 enum_told-1 : tie.Need-enum_told-1
 enum_told-1 c = search rules
 
-shape_of-words-then-end-ge1024 : tie.Need-shape_of-words-then-end-ge1024
-shape_of-words-then-end-ge1024 c = search rules
+shape_of-words-then-end-ge-MOST_CELLS : tie.Need-shape_of-words-then-end-ge-MOST_CELLS
+shape_of-words-then-end-ge-MOST_CELLS c = search rules
 
-returns-then-end-ge1024 : tie.Need-returns-then-end-ge1024
-returns-then-end-ge1024 c =
+returns-then-end-ge-MOST_CELLS : tie.Need-returns-then-end-ge-MOST_CELLS
+returns-then-end-ge-MOST_CELLS c =
     let a = c.args in
     let missing = found_none _ (sym c.in_default.is ∙ c.find_key-found.ensures) in
-    put_full a.image.now a.h a.key a.head a.end a.at a.words.now c.requires.1 c.requires.3 c.requires.4 missing c.if-end-ge1024.true c.requires.2
+    put_full a.image.now a.h a.key a.head a.end a.at a.words.now c.requires.1 c.requires.3 c.requires.4 missing c.if-end-ge-MOST_CELLS.true c.requires.2
 
 overflow_mul-to : tie.Need-overflow_mul-to
 overflow_mul-to c = search rules
@@ -101,7 +101,7 @@ returns : tie.Need-returns
 returns c =
     let a = c.args in
     let missing = found_none _ (sym c.in_default.is ∙ c.find_key-found.ensures) in
-    rw c.copy_pending-2.ensures (put_new a.image.now a.h a.key a.head a.end a.at a.words.now c.requires.1 c.requires.3 c.requires.4 missing c.if-end-ge1024.false)
+    rw c.copy_pending-2.ensures (put_new a.image.now a.h a.key a.head a.end a.at a.words.now c.requires.1 c.requires.3 c.requires.4 missing c.if-end-ge-MOST_CELLS.false)
 
 pub put_entry_spec : {M : Type 1} → statement M
 put_entry_spec =
@@ -116,8 +116,8 @@ put_entry_spec =
     shape_of-words-in-At
     returns-in-At
     enum_told-1
-    shape_of-words-then-end-ge1024
-    returns-then-end-ge1024
+    shape_of-words-then-end-ge-MOST_CELLS
+    returns-then-end-ge-MOST_CELLS
     overflow_mul-to
     overflow_add-to
     copy_pending-requires-2

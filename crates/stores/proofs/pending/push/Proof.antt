@@ -7,8 +7,8 @@ use Rattle.stores.proofs.pending.push.Tie as tie
 bounds-run-4 : tie.Need-bounds-run-4
 bounds-run-4 c = search rules
 
-returns-then-count-ge512 : tie.Need-returns-then-count-ge512
-returns-then-count-ge512 c = push_full _ _ _ c.requires c.if-count-ge512.true
+returns-then-count-ge-MOST_PENDING : tie.Need-returns-then-count-ge-MOST_PENDING
+returns-then-count-ge-MOST_PENDING c = push_full _ _ _ c.requires c.if-count-ge-MOST_PENDING.true
 
 overflow_mul-count : tie.Need-overflow_mul-count
 overflow_mul-count c = search rules
@@ -29,14 +29,14 @@ shape_of-words : tie.Need-shape_of-words
 shape_of-words c = search rules
 
 returns : tie.Need-returns
-returns c = push_made _ _ _ _ c.requires c.if-count-ge512.false c.put_slot.ensures
+returns c = push_made _ _ _ _ c.requires c.if-count-ge-MOST_PENDING.false c.put_slot.ensures
 
 pub push_spec : {M : Type 1} → statement M
 push_spec =
     tie.close
     (tie.spec
     bounds-run-4
-    returns-then-count-ge512
+    returns-then-count-ge-MOST_PENDING
     overflow_mul-count
     overflow_add-count
     put_slot-requires
