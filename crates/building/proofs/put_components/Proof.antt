@@ -34,14 +34,14 @@ component c =
     let some = c.loop-i-test.true in
     let is = c.node_at-node.ensures in
     let kind = ap (λ (d : Node). d.kind) is in
-    ⊎_elim
-    (λ w.
-    let put = rw (w.1.ensures, is) at w.3.ensures in
-    rw w.7 (text_component _ _ _ _ _ _ _ _ template _ _ _ _ l.invariant some _ _ (sym kind ∙ w.0.taken) (w.8 ∙ put.0) (w.6 ∙ put.1)))
-    (λ w.
-    let put = rw w.2.ensures at w.4.ensures in
-    rw w.8 (value_component _ _ _ _ _ _ _ _ template _ _ _ _ l.invariant some _ _ (λ e. w.0.left (kind ∙ e)) w.1.left (w.9 ∙ put.0) (w.7 ∙ put.1)))
-    c.if-node-eq17.branch
+    elim c.if-node-eq17.branch [
+      | lts.then-node-eq17 w ↦
+          let put = rw (w.key_of.ensures, is) at w.put_part-put.ensures in
+          rw w.item-is (text_component _ _ _ _ _ _ _ _ template _ _ _ _ l.invariant some _ _ (sym kind ∙ w.if-node-eq17.true) (w.put-is ∙ put.0) (w.bytes-is ∙ put.1))
+      | lts.else-node-eq17+else-to-item w ↦
+          let put = rw w.pending_at.ensures at w.put_value-put.ensures in
+          rw w.item-is (value_component _ _ _ _ _ _ _ _ template _ _ _ _ l.invariant some _ _ (λ e. w.if-node-eq17.false (kind ∙ e)) w.if-to-item.false (w.put-is ∙ put.0) (w.bytes-is ∙ put.1))
+    ]
 
 node_at-i-requires : tie.Need-node_at-i-requires invariant-loop-i decreases-loop-i
 node_at-i-requires c κs =

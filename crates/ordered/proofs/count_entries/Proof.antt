@@ -7,6 +7,7 @@ use Rattle.ordered.proofs.WordLaws.{CountTo, count_start, count_owned, count_oth
 use borrow.Author.Rules.{rules}
 use Rattle.ordered.proofs.count_entries.Statement.{statement}
 use Rattle.ordered.proofs.count_entries.Tie as tie
+use Rattle.ordered.proofs.count_entries.Lts.{then-is_owned, else-is_owned}
 
 abbrev invariant-loop-i : tie.invariant-loop-i
 invariant-loop-i words run owner cells count₀ i₀ count i = (i ≤ cells) × (count ≤ i) × CountTo run words owner i count
@@ -37,10 +38,12 @@ loop-i-preserved c =
     let l = c.loop-i in
     let a = c.args in
     let below = c.loop-i-test.true in
-    ⊎_elim
-    (λ w. (omega arith, omega (arith, w.1), rw w.1 (count_owned a.run.now a.words.now a.owner l.i l.count l.invariant.2 below (sym w.0.taken ∙ c.is_owned.ensures))))
-    (λ w. (omega arith, omega (arith, w.1), rw w.1 (count_other a.run.now a.words.now a.owner l.i l.count l.invariant.2 below (sym w.0.left ∙ c.is_owned.ensures))))
-    c.if-is_owned.branch
+    elim c.if-is_owned.branch [
+      | then-is_owned w ↦
+          (omega arith, omega (arith, w.count-is), rw w.count-is (count_owned a.run.now a.words.now a.owner l.i l.count l.invariant.2 below (sym w.if-is_owned.true ∙ c.is_owned.ensures)))
+      | else-is_owned w ↦
+          (omega arith, omega (arith, w.count-is), rw w.count-is (count_other a.run.now a.words.now a.owner l.i l.count l.invariant.2 below (sym w.if-is_owned.false ∙ c.is_owned.ensures)))
+    ]
 
 returns : tie.Need-returns invariant-loop-i decreases-loop-i
 returns c =
