@@ -39,6 +39,9 @@ def main(file, prefixed, paths):
             goal = (f + "-" if prefixed else "") + to
             made = n.block(f"x : tie.Need-{m.group(3)}\nx {body.group(1)} ={body.group(2)}")
             made = made[made.index("\nx ") + 1:]
+            # The measure of the call was the first part of what it required, and is found by itself now.
+            made = re.sub(r", \w+\.requires\.0(?![\w.])", "", made)
+            made = re.sub(r"omega \(arith\)", "omega arith", re.sub(r"\.requires\.1(?![\w])", ".requires", made))
             print(f"pub {goal} : goal.{goal}")
             if unfolding:
                 print(unfolding.group(0))
