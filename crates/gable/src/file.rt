@@ -1,5 +1,5 @@
 // An image from the file that the second argument names.
-ghost use Rattle.std.specs.Prelude.{◌≤◌, length};
+ghost use Rattle.std.specs.Prelude.{◌≤◌, length, IfOk, IfSome};
 ghost use Rattle.gable.specs.Within.{Within};
 
 use printing::{bytes, warn, warn_errno};
@@ -36,32 +36,41 @@ fn tell_why(stderr: &impl Print, before: &[u8], path: &[u8], why: &Error) {
     warn_errno(stderr, &page, at, why);
 }
 
-// Reads until the image is full, the file ends or a read fails; how many bytes were read.
-fn read_full(file: &mut impl Read, image: &mut [u8]) -> usize
-    ensures { result ≤ length image.new }
+// Reads until the image is full or the file ends; how many bytes were read.
+fn read_full(file: &mut impl Read, image: &mut [u8]) -> io::Result<usize>
+    ensures { IfOk result (λ n. n ≤ length image.new) }
 {
     let mut done = 0;
     while done < image.len() {
-        let Ok(n) = file.read(&mut image[done..]) else {
-            return done;
-        };
+        let n = file.read(&mut image[done..])?;
         if n == 0 {
-            return done;
+            return Ok(done);
         }
         done += n;
     }
-    done
+    Ok(done)
 }
 
-// All of an open file, and not a byte more: the read after the last tells a file that ends from one that is too long or cannot be read.
+// The same, and none if the file goes on: the read after the last tells.
+fn read_to_end(file: &mut impl Read, image: &mut [u8]) -> io::Result<Option<usize>>
+    ensures { IfOk result (λ some. IfSome some (λ n. n ≤ length image.new)) }
+{
+    let length = read_full(file, image)?;
+    let mut beyond = [0u8; 1];
+    if file.read(&mut beyond)? == 0 {
+        Ok(Some(length))
+    } else {
+        Ok(None)
+    }
+}
+
+// All of an open file, and not a byte more, or why not is told.
 fn read_whole(file: &mut impl Read, stderr: &impl Print, path: &[u8], image: &mut [u8]) -> Loaded
     ensures { Within result image.new }
 {
-    let length = read_full(file, image);
-    let mut beyond = [0u8; 1];
-    match file.read(&mut beyond) {
-        Ok(0) => Loaded::Whole(length),
-        Ok(_) => {
+    match read_to_end(file, image) {
+        Ok(Some(length)) => Loaded::Whole(length),
+        Ok(None) => {
             tell(
                 stderr,
                 b"name an image of at most 140273 bytes, not ",
