@@ -1,4 +1,6 @@
 // Entering a node: depth first, then its takes.
+#![tactic(auto)]
+
 ghost use Rattle.std.specs.Prelude.{◌≡◌, cond, ◌≤◌, length};
 ghost use Rattle.packed.specs.Layout.{size_of};
 ghost use Rattle.rules.specs.Machine.{Ctl, kind_of, takes_more};

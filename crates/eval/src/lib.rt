@@ -1,4 +1,6 @@
 // eval.rs: the evaluators, which call one another. Each goes as the machine of the rules goes from its own control; only those that call back stand here.
+#![tactic(auto)]
+
 ghost use Rattle.std.specs.Prelude.{◌≡◌, [], ◌∷◌, ◌+◌, ◌≤◌};
 ghost use Rattle.packed.specs.Layout.{node_at};
 ghost use Rattle.rules.specs.Machine.{Ctl, Frame, kind_of, onward as onwardFrom};

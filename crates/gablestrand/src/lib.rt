@@ -1,4 +1,6 @@
 // One call of the constant evaluator: an image, a budget and lent stores in, an answer out.
+#![tactic(auto)]
+
 ghost use Rattle.std.specs.Prelude.{◌≡◌, length};
 ghost use Rattle.image.specs.declared.Loaded.TheVariants.{Image};
 ghost use Rattle.image.specs.Load.{load_of};

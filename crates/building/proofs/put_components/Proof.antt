@@ -1,6 +1,5 @@
 -- `building::put_components` meets its contract. The loop's invariant is `Printing`; the measure is what is left of the chain. Assumes nothing.
 use mathlib.Core.Path.{sym, ap, ◌∙◌}
-use mathlib.Core.Logic.{⊎_elim}
 use native.Mathlib.Omega.{arith}
 use Rattle.packed.specs.declared.layout.Node.{Node}
 use Rattle.building.proofs.ChainLaws.{size_right, part_there, left_of, onward_less}

@@ -1,7 +1,6 @@
 -- The evaluators meet their contracts, goal by goal.
 use Prim.Native.Nat.{ℕ, ◌<◌, ◌≤◌}
-use Rattle.building.proofs.ChainLaws.{left_of}
-use Rattle.eval.proofs.ChainLoop.{AtChain, AtTurn, arms_end, arms_next, chain_begins, chain_less, instructions_end, instructions_next, items_end, items_next, turn_begins, turn_next}
+use Rattle.eval.proofs.ChainLoop.{arms_end, arms_next, chain_begins, chain_less, instructions_end, instructions_next, items_end, items_next, turn_begins, turn_next}
 use Rattle.eval.proofs.MemberLaws.{arm_fails, arm_holds, arm_out, body_entering, branches_way, break_of_lem, break_post, call_done, call_refused, condition_done, default_done, default_unit, entered_fits, entered_less, entered_out, entered_post, falls_after, instruction_next, instruction_past, item_done, item_skipped, items_start, items_way, left_past, let_done, loop_begun, never_on, no_more, no_more_post, none_of_16, not_const_post, on_is, on_post, on_then, operand_done, out_is, pass_done, pass_falls, right_done, scope_begun, scope_last, scope_unit, still_out, taken_done, turn_bare, turn_fails, turn_holds, turn_out}
 use Rattle.eval.proofs.NodeRanges.{a_there, along_there, b_there, body_there, is_kind, is_node_lem, item_there, operand_some, operand_there, ready_at, whole}
 use Rattle.items.specs.Gathering.{Builds, Gathers, built, called, objects, templates, tuples, vecs}
@@ -9,12 +8,10 @@ use Rattle.kinds.specs.Kinds.{row_of, table}
 use Rattle.kinds.specs.declared.Class.TheVariants.{Arm, Condition, Expression, Scope}
 use Rattle.operands.specs.Waiting.{Single, assigns, breaks, declares, operand_of, sets}
 use Rattle.outcomes.proofs.Ways.{out_of}
-use Rattle.outcomes.specs.Post.{Post}
 use Rattle.packed.specs.declared.layout.Function.{Function}
 use Rattle.packed.specs.declared.layout.Node.{Node}
 use Rattle.rules.proofs.Moves.{body, expression}
-use Rattle.rules.specs.Machine.{arms, instructions, items, kind_of, onward, turn}
-use Rattle.stores.specs.Stores.{takes_of}
+use Rattle.rules.specs.Machine.{kind_of}
 use borrow.Author.Rules.{rules}
 use borrow.Author.Tests.{eqb-true}
 use mathlib.Core.Bool.{false, true, true≢false}

@@ -5,12 +5,6 @@ use Rattle.gablestrand.proofs.RootLaws.{not_loaded}
 use borrow.Author.Rules.{rules}
 use Rattle.gablestrand.proofs.answer_of.Statement.{statement}
 use Rattle.gablestrand.proofs.answer_of.Tie as tie
-use Rattle.gablestrand.proofs.answer_of.Reads as reads
-use Rattle.gablestrand.proofs.answer_of.Lts as lts
-use Rattle.gablestrand.proofs.run_image.Reads as run-image-reads
-use Rattle.image.proofs.Loaded.number.Reads as number-reads
-use Rattle.image.proofs.Loaded.place.Reads as place-reads
-use Rattle.image.proofs.load.Reads as load-reads
 
 load-loaded-requires : tie.Need-load-loaded-requires
 load-loaded-requires c κs = search rules

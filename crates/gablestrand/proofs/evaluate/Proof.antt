@@ -7,11 +7,6 @@ use mathlib.Core.Path.{sym}
 use borrow.Author.Rules.{rules}
 use Rattle.gablestrand.proofs.evaluate.Statement.{statement}
 use Rattle.gablestrand.proofs.evaluate.Tie as tie
-use Rattle.gablestrand.proofs.evaluate.Reads as reads
-use Rattle.gablestrand.proofs.evaluate.Lts as lts
-use Rattle.gablestrand.proofs.answer_of.Reads as answer-of-reads
-use Rattle.gablestrand.proofs.clear_bytes.Reads as clear-bytes-reads
-use Rattle.gablestrand.proofs.clear_words.Reads as clear-words-reads
 
 returns-then-words-lt-WORDS : tie.Need-returns-then-words-lt-WORDS
 returns-then-words-lt-WORDS c = short (inl c.if-words-lt-WORDS.true)

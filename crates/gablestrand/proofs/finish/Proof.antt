@@ -3,9 +3,6 @@ use Rattle.gablestrand.proofs.FinishLaws.{finished_length, finished_nested, fini
 use borrow.Author.Rules.{rules}
 use Rattle.gablestrand.proofs.finish.Statement.{statement}
 use Rattle.gablestrand.proofs.finish.Tie as tie
-use Rattle.gablestrand.proofs.finish.Reads as reads
-use Rattle.gablestrand.proofs.finish.Lts as lts
-use Rattle.output.proofs.write_value.Reads as write-value-reads
 
 write_value-written-requires : tie.Need-write_value-written-requires
 write_value-written-requires c κs = search rules

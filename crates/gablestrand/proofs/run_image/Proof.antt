@@ -4,10 +4,6 @@ use Rattle.gablestrand.proofs.RootLaws.{fresh_ready, loaded_whole, left_within, 
 use borrow.Author.Rules.{rules}
 use Rattle.gablestrand.proofs.run_image.Statement.{statement}
 use Rattle.gablestrand.proofs.run_image.Tie as tie
-use Rattle.gablestrand.proofs.run_image.Reads as reads
-use Rattle.gablestrand.proofs.run_image.Lts as lts
-use Rattle.eval.proofs.ir_expr.Reads as ir-expr-reads
-use Rattle.gablestrand.proofs.finish.Reads as finish-reads
 
 bounds-run-0 : tie.Need-bounds-run-0
 bounds-run-0 c = search rules

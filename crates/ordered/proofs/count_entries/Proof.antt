@@ -1,6 +1,5 @@
 -- `ordered::count_entries` meets its contract. The loop's invariant: what is counted, with the entries from i on, is all. Assumes nothing.
 use mathlib.Core.Path.{sym, ◌∙◌}
-use mathlib.Core.Logic.{⊎_elim}
 use Prim.Native.Nat.{◌-◌, ◌≤◌}
 use native.Mathlib.Omega.{arith}
 use Rattle.ordered.proofs.WordLaws.{CountTo, count_start, count_owned, count_other, count_done}

@@ -4,9 +4,6 @@ use Rattle.output.proofs.Items.{past_cells}
 use borrow.Author.Rules.{rules}
 use Rattle.output.proofs.item_value.Statement.{statement}
 use Rattle.output.proofs.item_value.Tie as tie
-use Rattle.output.proofs.item_value.Reads as reads
-use Rattle.output.proofs.item_value.Lts as lts
-use Rattle.boxes.proofs.cell_at.Reads as cell-at-reads
 
 returns-then-i-ge1024 : tie.Need-returns-then-i-ge1024
 returns-then-i-ge1024 c = past_cells _ c.requires.0 (omega (arith, c.if-i-ge1024.true))

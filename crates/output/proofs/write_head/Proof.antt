@@ -9,15 +9,6 @@ use Rattle.output.proofs.Texts.{bool_bit_lem, number_puts, head_puts, text_head,
 use borrow.Author.Rules.{rules}
 use Rattle.output.proofs.write_head.Statement.{statement}
 use Rattle.output.proofs.write_head.Tie as tie
-use Rattle.output.proofs.write_head.Reads as reads
-use Rattle.output.proofs.write_head.Lts as lts
-use Rattle.boxes.proofs.count_in.Reads as count-in-reads
-use Rattle.numbers.proofs.word.float_to_word.Reads as float-to-word-reads
-use Rattle.numbers.proofs.word.int_to_word.Reads as int-to-word-reads
-use Rattle.ordered.proofs.count_entries.Reads as count-entries-reads
-use Rattle.output.proofs.write_number.Reads as write-number-reads
-use Rattle.output.proofs.write_string.Reads as write-string-reads
-use Rattle.pouring.proofs.put.Reads as put_reads
 
 bounds-run-6 : tie.Need-bounds-run-6
 bounds-run-6 c = search rules

@@ -3,9 +3,6 @@ use Rattle.output.proofs.Steps.{puts_on, puts_stuck, puts_place}
 use borrow.Author.Rules.{rules}
 use Rattle.output.proofs.write_number.Statement.{statement}
 use Rattle.output.proofs.write_number.Tie as tie
-use Rattle.output.proofs.write_number.Reads as reads
-use Rattle.output.proofs.write_number.Lts as lts
-use Rattle.pouring.proofs.put.Reads as put_reads
 
 put-spot-requires : tie.Need-put-spot-requires
 put-spot-requires c κs = search rules

@@ -3,10 +3,6 @@ use Rattle.output.proofs.Steps.{puts_on, puts_stuck, puts_place}
 use borrow.Author.Rules.{rules}
 use Rattle.output.proofs.write_string.Statement.{statement}
 use Rattle.output.proofs.write_string.Tie as tie
-use Rattle.output.proofs.write_string.Reads as reads
-use Rattle.output.proofs.write_string.Lts as lts
-use Rattle.output.proofs.write_text.Reads as write-text-reads
-use Rattle.pouring.proofs.put.Reads as put_reads
 
 put-spot-requires : tie.Need-put-spot-requires
 put-spot-requires c κs = search rules

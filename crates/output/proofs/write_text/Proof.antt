@@ -1,16 +1,10 @@
 -- `output::write_text` meets its contract: a length, then the bytes from the image and those that were built. Assumes nothing.
 use native.Mathlib.Omega.{arith}
-use mathlib.Core.List.{◌++◌}
 use Rattle.output.proofs.Steps.{puts_on, puts_stuck, puts_place}
 use Rattle.output.proofs.Texts.{text_puts}
 use borrow.Author.Rules.{rules}
 use Rattle.output.proofs.write_text.Statement.{statement}
 use Rattle.output.proofs.write_text.Tie as tie
-use Rattle.output.proofs.write_text.Reads as reads
-use Rattle.output.proofs.write_text.Lts as lts
-use Rattle.pouring.proofs.put.Reads as put_reads
-use Rattle.pouring.proofs.put_bytes.Reads as put-bytes-reads
-use Rattle.texts.proofs.sources_of.Reads as sources-of-reads
 
 sources_of-from-requires : tie.Need-sources_of-from-requires
 sources_of-from-requires c κs = search rules

@@ -4,10 +4,6 @@ use Rattle.output.proofs.Whole.{whole_at, wrote_nested, wrote_full, wrote_length
 use borrow.Author.Rules.{rules}
 use Rattle.output.proofs.write_value.Statement.{statement}
 use Rattle.output.proofs.write_value.Tie as tie
-use Rattle.output.proofs.write_value.Reads as reads
-use Rattle.output.proofs.write_value.Lts as lts
-use Rattle.output.proofs.length_at.Reads as length-at-reads
-use Rattle.output.proofs.write_any.Reads as write-any-reads
 
 write_any-measured-requires : tie.Need-write_any-measured-requires
 write_any-measured-requires c κs = search rules

@@ -1,5 +1,5 @@
 -- `frames::loops::caught` meets its contract: `goes_on`, `refused_value`, `loop_ended`. Assumes nothing.
-use mathlib.Core.Logic.{inl, inr, ⊎_elim}
+use mathlib.Core.Logic.{inl, inr}
 use lib.Dec.{eqb}
 use borrow.Author.Tests.{eqb-true, eqb-false, not-true, not-false}
 use Rattle.outcomes.proofs.NodeLaws.{node_there}
