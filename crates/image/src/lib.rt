@@ -51,11 +51,14 @@ impl Loaded {
     }
 }
 
+// The one edition that loads.
+const EDITION: u8 = 1;
+
 fn judge(image: &[u8], h: Header) -> Loaded
     requires { h ≡ header_of image.now }
     ensures { result ≡ judged image.now h }
 {
-    if h.edition != 1 {
+    if h.edition != EDITION {
         return Loaded::BadHeader;
     }
     if image.len() != size_of(h) {
@@ -73,11 +76,14 @@ fn judge(image: &[u8], h: Header) -> Loaded
     }
 }
 
+// The bytes of a header.
+const HEADER_LENGTH: usize = 8;
+
 // Whether an image loads, and the first refusal in 01's order where it does not.
 pub fn load(image: &[u8]) -> Loaded
     ensures { result ≡ load_of image.now }
 {
-    if image.len() < 8 {
+    if image.len() < HEADER_LENGTH {
         return Loaded::BadLength;
     }
     judge(image, header_of(image))

@@ -31,14 +31,16 @@ pub fn unsigned_abs(x: i64) -> u64
     (-1 - x) as u64 + 1
 }
 
-// A product is at most 2^63 - 1, and at least -2^63 where the signs differ. 3037000499 is the greatest number whose square
-// is an i64: two factors up to it need no division.
+// The greatest number whose square is an i64: two factors up to it need no division.
+const GREATEST_ROOT: u64 = 3037000499;
+
+// A product is at most 2^63 - 1, and at least -2^63 where the signs differ.
 fn product_fits(x: i64, y: i64) -> bool
     ensures { result ≡ in_i64 (x *ℤ y) }
 {
     let a = unsigned_abs(x);
     let b = unsigned_abs(y);
-    if a <= 3037000499 && b <= 3037000499 {
+    if a <= GREATEST_ROOT && b <= GREATEST_ROOT {
         return true;
     }
     if b == 0 {

@@ -41,11 +41,14 @@ fn not_a_number() -> f64
     0.0 / 0.0
 }
 
+// An infinity's pattern, the sign aside.
+const INFINITY: u64 = 0x7ff0_0000_0000_0000;
+
 // The patterns above an infinity's, the sign aside, are those of a NaN, which is computed.
 pub fn word_to_float(w: u64) -> f64
     ensures { result ≡ float_of w }
 {
-    if w % 0x8000_0000_0000_0000 > 0x7ff0_0000_0000_0000 {
+    if w % 0x8000_0000_0000_0000 > INFINITY {
         return not_a_number();
     }
     f64::from_bits(w)

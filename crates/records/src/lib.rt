@@ -25,13 +25,16 @@ pub fn is_node(x: u16, nodes: u16) -> bool
     x <= nodes
 }
 
+// Argument names stay below it.
+const NAMES_END: usize = 1024;
+
 fn function_good(h: Header, f: Function) -> bool
     ensures { result ≡ function_good h f }
 {
     if !is_node(f.body, h.nodes) {
         return false;
     }
-    if 1024 < f.first as usize + f.count as usize {
+    if NAMES_END < f.first as usize + f.count as usize {
         return false;
     }
     f.zero == 0

@@ -16,14 +16,17 @@ fn byte(x: u8) -> u8
     x
 }
 
-// One more naming of a node. A count stops at 255, so that none wraps to 1.
+// Where a count stops, so that none wraps to 1.
+const MOST_COUNTED: u8 = 255;
+
+// One more naming of a node.
 fn bump(counts: &mut [u8; 4096], node: u16)
     requires { (node < 4096) × (length counts.old ≡ 4096) }
     ensures { Added counts.old counts.new (node ∷ []) }
 {
     let n = node as usize;
     let old = byte(counts[n]);
-    if old < 255 {
+    if old < MOST_COUNTED {
         counts[n] = old + 1;
     }
 }
@@ -191,11 +194,14 @@ fn is_body_well(kind: u8, as_body: u8) -> bool
     kind == 1
 }
 
+// How often a node is named.
+const NAMINGS: u8 = 1;
+
 // Whether node n is named as it should be: once, the root an expression and a body a scope.
 fn is_named_well(h: Header, n: u16, kind: u8, times: u8, as_body: u8) -> bool
     ensures { result ≡ is_named_well h n kind times as_body }
 {
-    if times != 1 {
+    if times != NAMINGS {
         return false;
     }
     if !is_root_well(h, n, kind) {
@@ -203,6 +209,9 @@ fn is_named_well(h: Header, n: u16, kind: u8, times: u8, as_body: u8) -> bool
     }
     is_body_well(kind, as_body)
 }
+
+// The parts that a target has at most.
+const MOST_PARTS: u8 = 64;
 
 fn node_right(
     image: &[u8],
@@ -220,7 +229,7 @@ fn node_right(
     if !names_well(image, h, n, d, chains[at]) {
         return false;
     }
-    if 64 < parts(image, h, n) {
+    if MOST_PARTS < parts(image, h, n) {
         return false;
     }
     is_named_well(h, n, d.kind, names[at], bodies[at])

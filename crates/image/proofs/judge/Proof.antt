@@ -28,7 +28,7 @@ module _ (s : tie.Start) where
 -- past the second test, the third and the records decide
 sized : (c : tie.Else-image-size_of) → asked c.before.before.before.before.before ≡ cond (not (is_node c.args.h.nodes c.args.h.root)) BadHeader (by_records_lem c.before.before.before.before.before)
 unfolding judged
-sized c = rw (eq-eqb _ _ c.if-h-ne1.false, eq-eqb _ _ (c.if-image-size_of.false ∙ c.size_of.ensures))
+sized c = rw (eq-eqb _ _ c.if-h-ne-EDITION.false, eq-eqb _ _ (c.if-image-size_of.false ∙ c.size_of.ensures))
 
 -- past the third, the records
 rooted : (c : tie.Else-not-is_node) → asked c.before.before.before.before.before.before.before ≡ by_records_lem c.before.before.before.before.before.before.before
@@ -38,16 +38,16 @@ rooted c = sized c.before.before ∙ rw (sym c.is_node.ensures ∙ not-false _ c
 recorded : (c : tie.In-Nowhere) → asked c.before.before.before.before.before.before.before.before.before ≡ by_tree_lem c.before.before.before.before.before.before.before.before.before
 recorded c = rooted c.before.before ∙ rw (sym c.bad_record.ensures ∙ c.in-Nowhere.is)
 
-returns-then-h-ne1 : tie.Need-returns-then-h-ne1
+returns-then-h-ne-EDITION : tie.Need-returns-then-h-ne-EDITION
 unfolding judged
-returns-then-h-ne1 c = rw (ne_eqb _ _ c.if-h-ne1.true)
+returns-then-h-ne-EDITION c = rw (ne_eqb _ _ c.if-h-ne-EDITION.true)
 
 size_of-requires : tie.Need-size_of-requires
 size_of-requires c κs = search rules
 
 returns-then-image-size_of : tie.Need-returns-then-image-size_of
 unfolding judged
-returns-then-image-size_of c = rw (eq-eqb _ _ c.if-h-ne1.false, sym c.size_of.ensures, ne_eqb _ _ c.if-image-size_of.true)
+returns-then-image-size_of c = rw (eq-eqb _ _ c.if-h-ne-EDITION.false, sym c.size_of.ensures, ne_eqb _ _ c.if-image-size_of.true)
 
 is_node-requires : tie.Need-is_node-requires
 is_node-requires c κs = search rules
@@ -90,7 +90,7 @@ pub judge_spec : {M : Type 1} → statement M
 judge_spec =
     tie.close
     (tie.spec
-    returns-then-h-ne1
+    returns-then-h-ne-EDITION
     size_of-requires
     returns-then-image-size_of
     is_node-requires

@@ -22,14 +22,14 @@ overflow_cast-f-2 c = search rules
 overflow_add-f : tie.Need-overflow_add-f
 overflow_add-f c = search rules
 
-returns-then-f-gt1024 : tie.Need-returns-then-f-gt1024
+returns-then-f-gt-NAMES_END : tie.Need-returns-then-f-gt-NAMES_END
 unfolding function_good
-returns-then-f-gt1024 c = rw (sym c.is_node.ensures ∙ not-false _ c.if-not-is_node.false-raw, lt-leb _ _ c.if-f-gt1024.true)
+returns-then-f-gt-NAMES_END c = rw (sym c.is_node.ensures ∙ not-false _ c.if-not-is_node.false-raw, lt-leb _ _ c.if-f-gt-NAMES_END.true)
 
 returns : tie.Need-returns
 unfolding function_good
-returns c = rw (sym c.is_node.ensures ∙ not-false _ c.if-not-is_node.false-raw, le-leb _ _ c.if-f-gt1024.false)
+returns c = rw (sym c.is_node.ensures ∙ not-false _ c.if-not-is_node.false-raw, le-leb _ _ c.if-f-gt-NAMES_END.false)
 
 pub function_good_spec : {M : Type 1} → statement M
 function_good_spec =
-    tie.close (tie.spec is_node-requires returns-then-not-is_node overflow_cast-f overflow_cast-f-2 overflow_add-f returns-then-f-gt1024 returns)
+    tie.close (tie.spec is_node-requires returns-then-not-is_node overflow_cast-f overflow_cast-f-2 overflow_add-f returns-then-f-gt-NAMES_END returns)

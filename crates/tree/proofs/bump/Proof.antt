@@ -21,27 +21,27 @@ byte-old-requires c κs = search rules
 overflow_add-counts : tie.Need-overflow_add-counts
 overflow_add-counts c = search rules
 
-bounds-counts-n-then-old-lt255 : tie.Need-bounds-counts-n-then-old-lt255
-bounds-counts-n-then-old-lt255 c = search rules
+bounds-counts-n-then-old-lt-MOST_COUNTED : tie.Need-bounds-counts-n-then-old-lt-MOST_COUNTED
+bounds-counts-n-then-old-lt-MOST_COUNTED c = search rules
 
-returns-then-old-lt255 : tie.Need-returns-then-old-lt255
+returns-then-old-lt-MOST_COUNTED : tie.Need-returns-then-old-lt-MOST_COUNTED
 unfolding grown
-returns-then-old-lt255 c =
+returns-then-old-lt-MOST_COUNTED c =
     let a = c.args in
     let l = a.counts.now in
     let old = c.byte-old.ensures.0 in
     let here : a.node < length l = omega arith in
-    added_one l a.node _ here (rw (sym old, lt-ltb _ _ c.if-old-lt255.true))
+    added_one l a.node _ here (rw (sym old, lt-ltb _ _ c.if-old-lt-MOST_COUNTED.true))
 
-returns-else-old-lt255 : tie.Need-returns-else-old-lt255
+returns-else-old-lt-MOST_COUNTED : tie.Need-returns-else-old-lt-MOST_COUNTED
 unfolding grown
-returns-else-old-lt255 c =
+returns-else-old-lt-MOST_COUNTED c =
     let a = c.args in
     let l = a.counts.now in
     let old = c.byte-old.ensures.0 in
     let here : a.node < length l = omega arith in
     subst (λ (m : List ℕ). Added l m (a.node ∷ [])) (set-get_or l a.node 0)
-    (added_one l a.node (get_or l a.node 0) here (rw (sym old, le-ltb _ _ c.if-old-lt255.false)))
+    (added_one l a.node (get_or l a.node 0) here (rw (sym old, le-ltb _ _ c.if-old-lt-MOST_COUNTED.false)))
 
 pub bump_spec : {M : Type 1} → statement M
 bump_spec =
@@ -50,6 +50,6 @@ bump_spec =
     bounds-counts-n
     byte-old-requires
     overflow_add-counts
-    bounds-counts-n-then-old-lt255
-    returns-then-old-lt255
-    returns-else-old-lt255)
+    bounds-counts-n-then-old-lt-MOST_COUNTED
+    returns-then-old-lt-MOST_COUNTED
+    returns-else-old-lt-MOST_COUNTED)

@@ -39,12 +39,12 @@ returns-then-not-names_well c =
 parts-requires : tie.Need-parts-requires
 parts-requires c κs = search rules
 
-returns-then-parts-gt64 : tie.Need-returns-then-parts-gt64
+returns-then-parts-gt-MOST_PARTS : tie.Need-returns-then-parts-gt-MOST_PARTS
 unfolding node_right
-returns-then-parts-gt64 c =
+returns-then-parts-gt-MOST_PARTS c =
     let p = c.requires in
     let small : c.args.n < 4096 = omega (arith, p.3.few) in
-    rw (sym c.node_at-d.ensures, sym (p.4.chained.at c.args.n small), sym c.names_well.ensures ∙ not-false _ c.if-not-names_well.false-raw, sym c.parts.ensures, lt-leb _ _ c.if-parts-gt64.true)
+    rw (sym c.node_at-d.ensures, sym (p.4.chained.at c.args.n small), sym c.names_well.ensures ∙ not-false _ c.if-not-names_well.false-raw, sym c.parts.ensures, lt-leb _ _ c.if-parts-gt-MOST_PARTS.true)
 
 bounds-names-at : tie.Need-bounds-names-at
 bounds-names-at c = search rules
@@ -62,7 +62,7 @@ returns c =
     let a = c.args in
     let small : a.n < 4096 = omega (arith, p.3.few) in
     let kind = c.node_at-d.result.kind in
-    rw (sym c.node_at-d.ensures, sym (p.4.chained.at a.n small), sym c.names_well.ensures ∙ not-false _ c.if-not-names_well.false-raw, sym c.parts.ensures, le-leb _ _ c.if-parts-gt64.false)
+    rw (sym c.node_at-d.ensures, sym (p.4.chained.at a.n small), sym c.names_well.ensures ∙ not-false _ c.if-not-names_well.false-raw, sym c.parts.ensures, le-leb _ _ c.if-parts-gt-MOST_PARTS.false)
     (c.is_named_well.ensures ∙ ap₂ (is_named_well a.h a.n kind) (p.4.named.at a.n small) (p.4.as_body.at a.n small) ∙ by_counts a.h a.n kind _ _)
 
 pub node_right_spec : {M : Type 1} → statement M
@@ -74,7 +74,7 @@ node_right_spec =
     names_well-requires
     returns-then-not-names_well
     parts-requires
-    returns-then-parts-gt64
+    returns-then-parts-gt-MOST_PARTS
     bounds-names-at
     bounds-bodies-at
     is_named_well-requires

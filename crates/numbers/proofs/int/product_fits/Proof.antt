@@ -18,11 +18,11 @@ unsigned_abs-a-requires c κs = search rules
 unsigned_abs-b-requires : tie.Need-unsigned_abs-b-requires
 unsigned_abs-b-requires c κs = search rules
 
-returns-then-b-le3037000499 : tie.Need-returns-then-b-le3037000499
-returns-then-b-le3037000499 c =
+returns-then-b-le-GREATEST_ROOT : tie.Need-returns-then-b-le-GREATEST_ROOT
+returns-then-b-le-GREATEST_ROOT c =
     product_small c.args.x c.args.y
-    (rw (c.unsigned_abs-a.ensures, to_z-of_z c.ranges.x) at c.if-a-le3037000499.true)
-    (leb-true _ 3037000499 (rw (c.unsigned_abs-b.ensures, to_z-of_z c.ranges.y) at c.if-b-le3037000499.true-raw))
+    (rw (c.unsigned_abs-a.ensures, to_z-of_z c.ranges.x) at c.if-a-le-GREATEST_ROOT.true)
+    (leb-true _ 3037000499 (rw (c.unsigned_abs-b.ensures, to_z-of_z c.ranges.y) at c.if-b-le-GREATEST_ROOT.true-raw))
 
 returns-then-b-eq0 : tie.Need-returns-then-b-eq0
 returns-then-b-eq0 c =
@@ -74,5 +74,5 @@ pub product_fits_spec : {M : Type 1} → statement M
 product_fits_spec =
     tie.close
     (tie.spec
-    unsigned_abs-a-requires unsigned_abs-b-requires returns-then-b-le3037000499 returns-then-b-eq0
+    unsigned_abs-a-requires unsigned_abs-b-requires returns-then-b-le-GREATEST_ROOT returns-then-b-eq0
     nonzero_div-result returns-then-y-ge0 nonzero_div-result-then-x-ge0 returns-then-x-ge0 nonzero_div-result-then-y-ge0-2 returns-then-y-ge0-2 nonzero_div-result-2 returns)

@@ -8,14 +8,14 @@ use Rattle.numbers.proofs.word.word_to_float.Tie as tie
 not_a_number-requires : tie.Need-not_a_number-requires
 not_a_number-requires c κs = search rules
 
-returns-then-w-gt9218868437227405312 : tie.Need-returns-then-w-gt9218868437227405312
-returns-then-w-gt9218868437227405312 c = c.not_a_number.ensures ∙ sym (above c.args.w c.if-w-gt9218868437227405312.true)
+returns-then-w-gt-INFINITY : tie.Need-returns-then-w-gt-INFINITY
+returns-then-w-gt-INFINITY c = c.not_a_number.ensures ∙ sym (above c.args.w c.if-w-gt-INFINITY.true)
 
 float_from_bits-result : tie.Need-float_from_bits-result
-float_from_bits-result c = below c.args.w c.if-w-gt9218868437227405312.false
+float_from_bits-result c = below c.args.w c.if-w-gt-INFINITY.false
 
 returns : tie.Need-returns
 returns c = search rules
 
 pub word_to_float_spec : {M : Type 1} → statement M
-word_to_float_spec = tie.close (tie.spec not_a_number-requires returns-then-w-gt9218868437227405312 float_from_bits-result returns)
+word_to_float_spec = tie.close (tie.spec not_a_number-requires returns-then-w-gt-INFINITY float_from_bits-result returns)
