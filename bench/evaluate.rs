@@ -1,7 +1,7 @@
 // How long evaluation takes, in nanoseconds a step: the best of several rounds, for programs without end that are run until a budget is used up, and what a
 // call costs that does nothing. The images are written by oracle/bench.py.
 //
-//     rt staticlib gablestrand
+//     bindings/staticlib gablestrand
 //     cargo bench --manifest-path bindings/rust/Cargo.toml
 use gablestrand::{evaluate, Answer, Stores};
 use std::hint::black_box;

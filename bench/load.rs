@@ -1,6 +1,6 @@
 // How long loading takes, in microseconds for each image: the best of several rounds.
 //
-//     rt staticlib image_c
+//     bindings/staticlib image_c
 //     rustc -O bench/load.rs -L target/staticlib -o target/bench_load && target/bench_load
 use std::hint::black_box;
 use std::time::Instant;

@@ -1,6 +1,6 @@
 /* Gablestrand: evaluation of a constant image, edition 1.
  *
- * Link libgablestrand.a, which `rt staticlib gablestrand` writes to target/staticlib.
+ * Link libgablestrand.a, which `bindings/staticlib gablestrand` writes to target/staticlib.
  */
 #ifndef GABLESTRAND_H
 #define GABLESTRAND_H

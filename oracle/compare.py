@@ -7,7 +7,7 @@ What stands in the stores and the output before each call is random.
 
 The library is a shared object, made from the root of the repository by
 
-    rt staticlib gablestrand
+    bindings/staticlib gablestrand
     cc -shared -o target/libgablestrand.so -Wl,--whole-archive target/staticlib/libgablestrand.a -Wl,--no-whole-archive
 
 Run:

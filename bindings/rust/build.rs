@@ -1,4 +1,4 @@
-//! Tells where libgablestrand.a stands: in the folder that GABLESTRAND_LIB names, else where `rt staticlib` writes it.
+//! Tells where libgablestrand.a stands: in the folder that GABLESTRAND_LIB names, else where `bindings/staticlib` puts it.
 use std::path::PathBuf;
 
 fn main() {

@@ -1,4 +1,6 @@
 // The operation of a binary node, once both operands are there.
+#![tactic(auto)]
+
 ghost use Rattle.std.specs.Prelude.{◌≡◌, [], ◌∷◌, ◌≤◌, length};
 ghost use Rattle.rules.specs.Building.{binary_of};
 ghost use Rattle.rules.specs.Machine.{Frame};

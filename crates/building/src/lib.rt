@@ -1,4 +1,6 @@
 // What vec, tuple, object and template make of their items, as interpreter.rs has it: the items are pending from `from` on.
+#![tactic(auto)]
+
 ghost use Rattle.std.specs.Prelude.{◌≡◌, ◌≤◌, ◌<◌, length};
 ghost use Rattle.packed.specs.Layout.{size_of};
 ghost use Rattle.numbers.specs.Decimal.{put_of, end_of};

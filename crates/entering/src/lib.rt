@@ -1,4 +1,6 @@
 // Entering a node: depth first, then its takes.
+#![tactic(auto)]
+
 ghost use Rattle.std.specs.Prelude.{◌≡◌, cond, ◌≤◌, length};
 ghost use Rattle.packed.specs.Layout.{size_of};
 ghost use Rattle.rules.specs.Machine.{Ctl, kind_of, takes_more};
@@ -10,6 +12,7 @@ use rules::Refusal;
 use stores::run::TAKES;
 
 // "scope, binary, decl, set, assign, template, loop and break take once more"
+#[tactic(auto, using(crate::proofs::EnterLaws::takes_by_lem))]
 fn takes_of(kind: u8) -> u64
     ensures { result ≡ cond (takes_more (kind_of kind)) 2 1 }
 {

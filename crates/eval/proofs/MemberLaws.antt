@@ -8,19 +8,17 @@ use mathlib.Core.Logic.{inl, inr}
 use mathlib.Core.List.{List, [], ◌∷◌, ◌++◌}
 use native.Mathlib.Decide.{ℕ_discrete}
 use borrow.Author.Tests.{eq-eqb, ne_eqb}
-use lib.ListN.{length}
 use Rattle.packed.specs.declared.layout.Header.{Header}
-use Rattle.packed.specs.declared.layout.Node.{Node}
 use Rattle.packed.specs.Layout.{node_at, function_at}
 use Rattle.rules.specs.declared.Value.{Value}
 use Rattle.rules.specs.declared.Value.TheVariants.{Unit as VUnit}
 use Rattle.rules.specs.declared.Refusal.TheVariants.{NotConst, NotBool}
-use Rattle.rules.specs.Store.{Store, opened, emptied, closed, most_text, as_bool}
-use Rattle.rules.specs.Machine.{Kind, kind_of, kinds, scope, binary, branches, loop, break, Ctl, enter, enter_body, work, instructions, items, arms, turn, test, ret, brk}
+use Rattle.rules.specs.Store.{Store, opened, emptied, closed, as_bool}
+use Rattle.rules.specs.Machine.{kind_of, kinds, Ctl, enter, enter_body, work, instructions, items, arms, turn, test, ret}
 use Rattle.rules.specs.Machine.{Frame, left_of, right_of, decl_of, set_of, assign_of, break_of, let_of, instruction_of, end_of, item_of, arm_of, condition_of, body_of, call_of, going, stop, onward, item_node}
 use Rattle.rules.specs.Go.{Go}
-use Rattle.rules.proofs.Going.{stay, ◌then◌}
-use Rattle.rules.proofs.Moves.{Enters, body, Gathers as KindGathers, components, elements, members, fields, parameters, Awaits, left, declaring, setting, assigning, breaking, no_kind, scope_opened, value_entered, bare_break, items_begun, branches_begun, loop_opened, not_const, instruction_entered, instruction_done, last_entered, no_last, arm_tested, arm_told_lem, default_entered, no_default, let_entered, condition_entered, turn_entered, turn_tested, condition_told_lem, right_entered}
+use Rattle.rules.proofs.Going.{stay}
+use Rattle.rules.proofs.Moves.{Enters, body, components, elements, members, fields, parameters, left, declaring, setting, assigning, breaking, no_kind, scope_opened, value_entered, bare_break, items_begun, branches_begun, loop_opened, not_const, instruction_entered, instruction_done, last_entered, no_last, arm_tested, arm_told_lem, default_entered, no_default, let_entered, condition_entered, turn_entered, turn_tested, condition_told_lem, right_entered}
 use Rattle.rules.proofs.ItemMoves.{text_skipped, item_entered, entry_entered}
 use Rattle.stores.specs.Stores.{store_of, takes_of, scope_of, floor_of, pending_of, Fits, Became, BecameRun}
 use Rattle.stores.proofs.PendingLaws.{length-pending}
@@ -30,7 +28,7 @@ use Rattle.outcomes.specs.declared.Progress.{Progress}
 use Rattle.outcomes.specs.declared.Progress.TheVariants.{On, Out}
 use Rattle.frames.specs.declared.Told.{Told}
 use Rattle.frames.specs.declared.Told.TheVariants.{Holds, Fails, Out as ToldOut}
-use Rattle.outcomes.specs.Post.{Ready, Came, Ways, WaysOn, Post, Advance, After, AfterOn, AfterText, AfterWords, EveryAfterRun, Falls}
+use Rattle.outcomes.specs.Post.{Ready, Post, Advance, After, AfterOn, AfterText, AfterWords, EveryAfterRun, Falls}
 use Rattle.image.specs.declared.Loaded.TheVariants.{Image}
 use Rattle.image.specs.Load.{load_of}
 use types.Run.{OneOf, miss}
@@ -42,7 +40,7 @@ use Rattle.frames.specs.Loops.{told_by, told_of, PassOver}
 use Rattle.items.specs.Items.{ItemOver}
 use Rattle.frames.specs.Calls.{CallEntered}
 use Rattle.eval.proofs.Falling.{Past, works, gives, breaks as broke, not_more, came_less, entering_falls}
-use Rattle.outcomes.proofs.Ways.{NoValue, all_pass, post_then, advance_then, post_past, valued, out_of, of_out, post_after, advance_after, ended, refused}
+use Rattle.outcomes.proofs.Ways.{NoValue, all_pass, post_then, advance_then, post_past, valued, of_out, post_after, advance_after, refused}
 use Rattle.operands.specs.Waiting.{Single, declares, sets, assigns, breaks, waiting, operand_of}
 use Rattle.items.specs.Gathering.{Gathers, built, called, templates, vecs, tuples, objects}
 

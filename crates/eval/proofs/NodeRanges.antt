@@ -1,5 +1,5 @@
 -- The nodes that the evaluators go to are nodes of the image: the fields of a node by its kind, and the members of a chain. Assumes nothing.
-use Prim.Native.Nat.{ℕ, zero, suc, ◌+◌, ◌-◌, ◌*◌, ◌≤◌, ◌<◌}
+use Prim.Native.Nat.{ℕ, ◌+◌, ◌≤◌}
 use native.Mathlib.Omega.{arith}
 use mathlib.Core.Path.{◌≡◌, refl, sym, ap, subst, ◌∙◌}
 use mathlib.Core.Bool.{Bool, true, false, ◌&&◌, true≢false}
@@ -9,19 +9,15 @@ use lib.Dec.{ltb, leb, eqb}
 use lib.ListN.{length}
 use Rattle.fields.proofs.Tests.{and_both}
 use Rattle.packed.specs.declared.layout.Header.{Header}
-use Rattle.packed.specs.declared.layout.Node.{Node}
 use Rattle.kinds.specs.declared.Class.{Class}
-use Rattle.kinds.specs.declared.Class.TheVariants.{Expression, Component, Arm, Entry}
+use Rattle.kinds.specs.declared.Class.TheVariants.{Expression, Component, Entry}
 use Rattle.kinds.specs.declared.Role.{Role}
-use Rattle.kinds.specs.declared.Role.TheVariants.{Function as FunctionRole, Node as NodeRole}
+use Rattle.kinds.specs.declared.Role.TheVariants.{Node as NodeRole}
 use Rattle.packed.specs.Layout.{node_at, function_at, size_of}
 use Rattle.kinds.specs.Kinds.{row_of, table, tag_role, is_of}
-use Rattle.image.specs.declared.Loaded.TheVariants.{Image}
-use Rattle.image.specs.Load.{load_of}
 use Rattle.records.specs.Records.{fits, is_node, function_good}
 use Rattle.image.proofs.Loads.{node_loaded, function_loaded}
-use Rattle.image.proofs.Chains.{Along, begins, along_class}
-use Rattle.rules.specs.Store.{most_text}
+use Rattle.image.proofs.Chains.{Along, along_class}
 use Rattle.rules.specs.Machine.{kind_of, kinds, item_node}
 use Rattle.stores.specs.Stores.{Fits}
 use Rattle.building.specs.Making.{IsKind}

@@ -1,7 +1,9 @@
 // eval.rs: the evaluators, which call one another. Each goes as the machine of the rules goes from its own control; only those that call back stand here.
+#![tactic(auto)]
+
 ghost use Rattle.std.specs.Prelude.{◌≡◌, [], ◌∷◌, ◌+◌, ◌≤◌};
 ghost use Rattle.packed.specs.Layout.{node_at};
-ghost use Rattle.rules.specs.Machine.{Ctl, Frame, kind_of, onward as onwardFrom};
+ghost use Rattle.rules.specs.Machine.{Ctl, Frame, kind_of, onward as onward_from};
 ghost use Rattle.stores.specs.Stores.{scope_of, takes_of};
 ghost use Rattle.outcomes.specs.Post.{Ready, Post, Advance, Falls};
 ghost use Rattle.operands.specs.Waiting.{Single, operand_of};
@@ -240,7 +242,7 @@ fn ir_item(
     from: u64,
 ) -> Progress
     requires { Ready image.now h n run.old words.old bytes.old × (depth ≤ 128) × IsItem image.now h n i }
-    ensures { Advance image.now h (Ctl.items n i depth from) [] (Ctl.items n (onwardFrom image.now h i) depth from) [] run.old words.old bytes.old run.new words.new bytes.new result }
+    ensures { Advance image.now h (Ctl.items n i depth from) [] (Ctl.items n (onward_from image.now h i) depth from) [] run.old words.old bytes.old run.new words.new bytes.new result }
 {
     let item = node_at(image, h, i as usize);
     if item.kind == 17 {
@@ -355,7 +357,7 @@ fn ir_arm(
     depth: u16,
 ) -> Progress
     requires { Ready image.now h i run.old words.old bytes.old × (depth ≤ 128) × ((node_at image.now h i).kind ≡ 18) }
-    ensures { Advance image.now h (Ctl.arms n i depth) [] (Ctl.arms n (onwardFrom image.now h i) depth) [] run.old words.old bytes.old run.new words.new bytes.new result }
+    ensures { Advance image.now h (Ctl.arms n i depth) [] (Ctl.arms n (onward_from image.now h i) depth) [] run.old words.old bytes.old run.new words.new bytes.new result }
 {
     let arm = node_at(image, h, i as usize);
     let scope = run[SCOPE];

@@ -1,4 +1,6 @@
 // What the frames of scopes, calls and loops do with the outcome that they wait for.
+#![tactic(auto)]
+
 use outcomes::Outcome;
 
 pub mod calls; // a function's body, entered and left

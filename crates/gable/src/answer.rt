@@ -49,7 +49,7 @@ fn refusal_told(page: &mut [u8], number: u8, place: u64, steps: u64) -> usize {
 }
 
 // A refusal is an answer of `eval`; of `hex` nothing but the bytes goes to standard output.
-fn print_refusal(answer: Answer, as_hex: bool) {
+fn print_refusal(stdout: &impl Print, stderr: &impl Print, answer: Answer, as_hex: bool) {
     let mut page = [0u8; 256];
     let at = refusal_told(
         &mut page,
@@ -58,45 +58,63 @@ fn print_refusal(answer: Answer, as_hex: bool) {
         answer.steps(),
     );
     if as_hex {
-        warn(&page, at);
+        warn(stderr, &page, at);
     } else {
-        send(&page, at);
+        send(stdout, stderr, &page, at);
     }
 }
 
 // The page is lent by its length, so that no proof has to count it out.
-fn print_hex(output: &[u8], page: &mut [u8; PAGE]) {
+fn print_hex(stdout: &impl Print, stderr: &impl Print, output: &[u8], page: &mut [u8; PAGE]) {
     let at = hex_bytes(page, 0, output);
     let end = byte(page, at, b'\n');
-    send(page, end);
+    send(stdout, stderr, page, end);
 }
 
-fn print_value(output: &[u8], steps: u64, page: &mut [u8; PAGE]) {
+fn print_value(
+    stdout: &impl Print,
+    stderr: &impl Print,
+    output: &[u8],
+    steps: u64,
+    page: &mut [u8; PAGE],
+) {
     let at = value(output, page);
     let line = byte(page, at, b'\n');
     let end = steps_told(page, line, steps);
-    send(page, end);
+    send(stdout, stderr, page, end);
 }
 
-fn print_answer(answer: Answer, output: &[u8], as_hex: bool)
+fn print_answer(
+    stdout: &impl Print,
+    stderr: &impl Print,
+    answer: Answer,
+    output: &[u8],
+    as_hex: bool,
+)
     requires { Fits answer output.now }
 {
     let Answer::Value(length, steps) = answer else {
-        print_refusal(answer, as_hex);
+        print_refusal(stdout, stderr, answer, as_hex);
         return;
     };
     let mut page = [0u8; PAGE];
     if as_hex {
-        print_hex(&output[0..length], &mut page);
+        print_hex(stdout, stderr, &output[0..length], &mut page);
     } else {
-        print_value(&output[0..length], steps, &mut page);
+        print_value(stdout, stderr, &output[0..length], steps, &mut page);
     }
 }
 
-pub fn evaluate_and_print(image: &[u8], budget: u64, as_hex: bool) {
+pub fn evaluate_and_print(
+    stdout: &impl Print,
+    stderr: &impl Print,
+    image: &[u8],
+    budget: u64,
+    as_hex: bool,
+) {
     let mut words = [0u64; 8192];
     let mut text = [0u8; 16384];
     let mut output = [0u8; OUTPUT];
     let answer = evaluate(image, budget, &mut words, &mut text, &mut output);
-    print_answer(answer, &output, as_hex);
+    print_answer(stdout, stderr, answer, &output, as_hex);
 }

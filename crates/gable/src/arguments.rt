@@ -1,11 +1,11 @@
 // What the program was asked for, by its arguments.
-use check::same;
-use libc::STDERR_FILENO;
+use std::env::FillError;
+use std::rt::Env;
 
 // The steps that an image may take where no budget is given, as in the Rust.
 const BUDGET: u64 = 1000000;
 
-#[derive(Drop)]
+#[derive(Clone, Copy)]
 pub enum Asked {
     Nothing,
     Eval(u64),
@@ -13,7 +13,7 @@ pub enum Asked {
     Unclear,
 }
 
-#[derive(Drop)]
+#[derive(Clone, Copy)]
 enum Budget {
     Is(u64),
     Bad,
@@ -50,35 +50,44 @@ fn budget_of(text: &[u8]) -> Budget {
     Budget::Is(n)
 }
 
+// Whether there is an argument i, the program's own name being argument 0.
+fn is_given(rt: &impl Env, i: usize) -> bool {
+    match rt.arg(i, &mut []) {
+        Err(FillError::NotPresent) => false,
+        _ => true,
+    }
+}
+
 // The budget, if there is such an argument.
-fn budget_asked() -> Budget {
-    if os::arg_count() < 4 {
+fn budget_asked(rt: &impl Env) -> Budget {
+    if !is_given(rt, 3) {
         return Budget::Is(BUDGET);
     }
     let mut text = [0u8; 32];
-    let n = os::arg(3, &mut text);
+    let Ok(n) = rt.arg(3, &mut text) else {
+        return Budget::Bad;
+    };
     budget_of(&text[..n])
 }
 
-fn is_command(name: &[u8]) -> bool {
+fn is_command(rt: &impl Env, name: &[u8]) -> bool {
     let mut text = [0u8; 8];
-    let n = os::arg(1, &mut text);
-    same(&text[..n], name)
+    let Ok(n) = rt.arg(1, &mut text) else {
+        return false;
+    };
+    &text[..n] == name
 }
 
 // The same for both commands: an image and at most a budget.
-fn with_image(as_hex: bool) -> Asked {
-    let count = os::arg_count();
-    if count < 3 || 4 < count {
-        io::write_all(
-            STDERR_FILENO,
+fn with_image(rt: &impl Env, stderr: &impl Print, as_hex: bool) -> Asked {
+    if !is_given(rt, 2) || is_given(rt, 4) {
+        let _ = stderr.write_all(
             b"gable: name one image and at most one budget: gable eval IMAGE [BUDGET]\n",
         );
         return Asked::Unclear;
     }
-    let Budget::Is(budget) = budget_asked() else {
-        io::write_all(
-            STDERR_FILENO,
+    let Budget::Is(budget) = budget_asked(rt) else {
+        let _ = stderr.write_all(
             b"gable: give the budget as a whole number from 0 to 18446744073709551615, in digits only\n",
         );
         return Asked::Unclear;
@@ -90,19 +99,16 @@ fn with_image(as_hex: bool) -> Asked {
     }
 }
 
-pub fn read() -> Asked {
-    if os::arg_count() < 2 {
+pub fn read(rt: &impl Env, stderr: &impl Print) -> Asked {
+    if !is_given(rt, 1) {
         return Asked::Nothing;
     }
-    if is_command(b"eval") {
-        return with_image(false);
+    if is_command(rt, b"eval") {
+        return with_image(rt, stderr, false);
     }
-    if is_command(b"hex") {
-        return with_image(true);
+    if is_command(rt, b"hex") {
+        return with_image(rt, stderr, true);
     }
-    io::write_all(
-        STDERR_FILENO,
-        b"gable: start with eval or hex: gable eval IMAGE [BUDGET]\n",
-    );
+    let _ = stderr.write_all(b"gable: start with eval or hex: gable eval IMAGE [BUDGET]\n");
     Asked::Unclear
 }

@@ -1,9 +1,14 @@
 // An image from the file that the second argument names.
+ghost use Rattle.std.specs.Prelude.{◌≤◌, length, IfOk, IfSome};
 ghost use Rattle.gable.specs.Within.{Within};
 
 use printing::{bytes, warn, warn_errno};
+use std::fs::File;
+use std::io::{Error, ErrorKind, Read};
+use std::rt::{Env, Files};
+use std::{io, str};
 
-#[derive(Drop)]
+#[derive(Clone, Copy)]
 pub enum Loaded {
     // how many bytes it has
     Whole(usize),
@@ -19,51 +24,103 @@ fn told_of(page: &mut [u8], before: &[u8], path: &[u8], after: &[u8]) -> usize {
     bytes(page, at, after)
 }
 
-fn tell(before: &[u8], path: &[u8], after: &[u8]) {
+fn tell(stderr: &impl Print, before: &[u8], path: &[u8], after: &[u8]) {
     let mut page = [0u8; 8192];
     let at = told_of(&mut page, before, path, after);
-    warn(&page, at);
+    warn(stderr, &page, at);
 }
 
-fn tell_why(before: &[u8], path: &[u8]) {
+fn tell_why(stderr: &impl Print, before: &[u8], path: &[u8], why: &Error) {
     let mut page = [0u8; 8192];
     let at = told_of(&mut page, before, path, b"");
-    warn_errno(&page, at);
+    warn_errno(stderr, &page, at, why);
 }
 
-// All of an open file, and not a byte more: the read after the last tells a file that ends from one that is too long or cannot be read.
-fn read_whole(fd: i32, path: &[u8], image: &mut [u8]) -> Loaded
-    ensures { Within result image.new }
+// Reads until the image is full or the file ends; how many bytes were read.
+fn read_full(file: &mut impl Read, image: &mut [u8]) -> io::Result<usize>
+    ensures { IfOk result (λ n. n ≤ length image.new) }
 {
-    let length = io::read_full(fd, image);
+    let mut done = 0;
+    while done < image.len() {
+        let n = file.read(&mut image[done..])?;
+        if n == 0 {
+            return Ok(done);
+        }
+        done += n;
+    }
+    Ok(done)
+}
+
+// The same, and none if the file goes on: the read after the last tells.
+fn read_to_end(file: &mut impl Read, image: &mut [u8]) -> io::Result<Option<usize>>
+    ensures { IfOk result (λ some. IfSome some (λ n. n ≤ length image.new)) }
+{
+    let length = read_full(file, image)?;
     let mut beyond = [0u8; 1];
-    let got = libc::read(fd, &mut beyond);
-    if got == 0 {
-        return Loaded::Whole(length);
+    if file.read(&mut beyond)? == 0 {
+        Ok(Some(length))
+    } else {
+        Ok(None)
     }
-    if got < 0 {
-        tell_why(b"name an image file that can be read, not ", path);
-        return Loaded::Not;
-    }
-    tell(b"name an image of at most 140273 bytes, not ", path, b"\n");
-    Loaded::Not
 }
 
-pub fn load(image: &mut [u8]) -> Loaded
+// All of an open file, and not a byte more, or why not is told.
+fn read_whole(file: &mut impl Read, stderr: &impl Print, path: &[u8], image: &mut [u8]) -> Loaded
     ensures { Within result image.new }
 {
-    let mut path = io::buffer();
-    let n = os::arg(2, &mut path);
-    if os::errno() != 0 {
-        tell_why(b"name the image by a shorter path", b"");
-        return Loaded::Not;
+    match read_to_end(file, image) {
+        Ok(Some(length)) => Loaded::Whole(length),
+        Ok(None) => {
+            tell(
+                stderr,
+                b"name an image of at most 140273 bytes, not ",
+                path,
+                b"\n",
+            );
+            Loaded::Not
+        }
+        Err(why) => {
+            tell_why(
+                stderr,
+                b"name an image file that can be read, not ",
+                path,
+                &why,
+            );
+            Loaded::Not
+        }
     }
-    let fd = os::open_read(&path[..n]);
-    if fd < 0 {
-        tell_why(b"name an image file that can be opened, not ", &path[..n]);
-        return Loaded::Not;
+}
+
+// What the system's error for a path that is too long is, by its number.
+const TOO_LONG: i32 = 36;
+
+// Files are opened by text.
+fn opened<R: Files>(rt: &R, path: &[u8]) -> io::Result<R::File> {
+    match str::from_utf8(path) {
+        Ok(path) => File::open(rt, path),
+        Err(_) => Err(Error::new(ErrorKind::InvalidFilename, "the path is not UTF-8")),
     }
-    let loaded = read_whole(fd, &path[..n], image);
-    libc::close(fd);
-    loaded
+}
+
+pub fn load(rt: &(impl Env + Files), stderr: &impl Print, image: &mut [u8]) -> Loaded
+    ensures { Within result image.new }
+{
+    let mut path = [0u8; 4096];
+    let Ok(n) = rt.arg(2, &mut path) else {
+        let why = Error::from_raw_os_error(TOO_LONG);
+        tell_why(stderr, b"name the image by a shorter path", b"", &why);
+        return Loaded::Not;
+    };
+    match opened(rt, &path[..n]) {
+        Ok(mut file) => read_whole(&mut file, stderr, &path[..n], image),
+        Err(why) => {
+            tell_why(
+                stderr,
+                b"name an image file that can be opened, not ",
+                &path[..n],
+                &why,
+            );
+            Loaded::Not
+        }
+    }
 }

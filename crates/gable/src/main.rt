@@ -1,4 +1,6 @@
 // Evaluates an image and prints what it comes to: `gable eval IMAGE [BUDGET]`, `gable hex IMAGE [BUDGET]`.
+#![tactic(auto)]
+
 mod answer; // what an image comes to, on a page
 mod arguments; // what the program was asked for
 mod file; // an image from a file
@@ -8,24 +10,31 @@ mod value; // a value as people read it
 use arguments::Asked;
 use file::Loaded;
 use printing::{bytes, send};
+use std::rt::{Env, Files};
 
 // The longest image of edition 1: its header, 255 functions, 4,095 nodes, 4,095 literals and 65,535 bytes of text.
 const LONGEST: usize = 8 + 4 * 255 + 8 * 4095 + 10 * 4095 + 65535;
 
-fn load_and_print(image: &mut [u8], budget: u64, as_hex: bool) {
-    let loaded = file::load(image);
+fn load_and_print(
+    rt: &(impl Env + Files + Print),
+    stderr: &impl Print,
+    image: &mut [u8],
+    budget: u64,
+    as_hex: bool,
+) {
+    let loaded = file::load(rt, stderr, image);
     let Loaded::Whole(length) = loaded else {
         return;
     };
-    answer::evaluate_and_print(&image[0..length], budget, as_hex);
+    answer::evaluate_and_print(rt, stderr, &image[0..length], budget, as_hex);
 }
 
-fn run(budget: u64, as_hex: bool) {
+fn run(rt: &(impl Env + Files + Print), stderr: &impl Print, budget: u64, as_hex: bool) {
     let mut image = [0u8; LONGEST];
-    load_and_print(&mut image, budget, as_hex);
+    load_and_print(rt, stderr, &mut image, budget, as_hex);
 }
 
-fn usage() {
+fn usage(stdout: &impl Print, stderr: &impl Print) {
     let mut page = [0u8; 512];
     let at = bytes(
         &mut page,
@@ -34,14 +43,15 @@ fn usage() {
 gable hex IMAGE [BUDGET]    the same, with the value's output bytes in hexadecimal\n\
 IMAGE is a file. BUDGET is how many steps it may take: 1000000 if it is left out.\n",
     );
-    send(&page, at);
+    send(stdout, stderr, &page, at);
 }
 
-fn main() {
-    match arguments::read() {
-        Asked::Nothing => usage(),
-        Asked::Eval(budget) => run(budget, false),
-        Asked::Hex(budget) => run(budget, true),
+fn main(rt: HostRuntime) {
+    let stderr = rt.stderr();
+    match arguments::read(&rt, &stderr) {
+        Asked::Nothing => usage(&rt, &stderr),
+        Asked::Eval(budget) => run(&rt, &stderr, budget, false),
+        Asked::Hex(budget) => run(&rt, &stderr, budget, true),
         Asked::Unclear => {}
     }
 }

@@ -3,7 +3,7 @@ use fields::{Read, field};
 use printing::{byte, bytes, decimal, escaped, hex};
 
 // How far the output is read, in bits, and the page written.
-#[derive(Drop)]
+#[derive(Clone, Copy)]
 struct Shown {
     bit: usize,
     at: usize,

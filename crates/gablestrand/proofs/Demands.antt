@@ -1,6 +1,6 @@
 -- The three demands, over the one promise of `evaluate`. Assumes nothing.
 use mathlib.Core.Path.{◌≡◌, refl, sym, ap, ◌∙◌, subst}
-use mathlib.Core.Logic.{◌⊎◌, inl, inr}
+use mathlib.Core.Logic.{inl, inr}
 use mathlib.Core.List.{List, [], ◌∷◌, ◌++◌}
 use Prim.Native.Nat.{ℕ, ◌*◌, ◌≤◌, ◌<◌}
 use native.Mathlib.Omega.{arith}
@@ -212,12 +212,15 @@ bits_within image h n out (bits bs) s = omega (arith, s bs refl)
 bits_within image h n out nested s = omega arith
 bits_within image h n out full s = omega arith
 
+answered_within : (image : List ℕ) (h : Header) {out o : List ℕ} {n : ℕ} {c : Cfg} {a : Answer} → Answered image h out c n a o → length_of a ≤ length out
+answered_within image h stopped = omega arith
+answered_within image h {out = out} {n = n} (valued {v = v} {σ = σ}) =
+    bits_within image h n out (value_encoded image h out v σ) ((keeps-room image h σ 64).keeps (8 * length out) v)
+
 length-within : {image words bytes out w y o : List ℕ} {b : ℕ} {a : Answer} → Evaluated image b words bytes out a w y o → length_of a ≤ length out
 length-within (short s) = omega arith
 length-within (long _ (unloaded p l)) = omega arith
-length-within (long _ (loaded p (ended x l stopped))) = omega arith
-length-within {image} {out = out} (long _ (loaded {h = h} p (ended {n = n} x l (valued {v = v} {σ = σ})))) =
-    bits_within image h n out (value_encoded image h out v σ) ((keeps-room image h σ 64).keeps (8 * length out) v)
+length-within {image} (long _ (loaded {h = h} p (ended x l told))) = answered_within image h told
 length-within (long _ (loaded p (spent x))) = omega arith
 
 pub value_within : {image words bytes out w y o : List ℕ} {b : ℕ} {a : Answer} → Evaluated image b words bytes out a w y o → (l s : ℕ) → a ≡ Value l s → l ≤ length out

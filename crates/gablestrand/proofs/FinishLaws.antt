@@ -4,12 +4,11 @@ use mathlib.Core.List.{List}
 use Prim.Native.Nat.{ℕ}
 use native.Mathlib.Omega.{arith}
 use Rattle.packed.specs.declared.layout.Header.{Header}
-use Rattle.rules.specs.declared.Answer.{Answer}
 use Rattle.rules.specs.declared.Answer.TheVariants.{Value as AValue, Refused}
 use Rattle.rules.specs.declared.Refusal.TheVariants.{Nesting, Room}
 use Rattle.rules.specs.declared.Value.{Value}
 use Rattle.rules.specs.Store.{Store}
-use Rattle.rules.specs.Output.{Encoded, bits, nested, full, bytes_for}
+use Rattle.rules.specs.Output.{Encoded, bits, nested, full}
 use Rattle.rules.specs.Runs.{of_encoded, value_encoded}
 use Rattle.output.specs.declared.Written.{Written}
 use Rattle.output.specs.declared.Written.TheVariants.{Length, Nested, Full}

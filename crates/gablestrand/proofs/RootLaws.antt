@@ -1,7 +1,7 @@
 -- From the outcome of the root to the answer that the rules and the budget give. Assumes nothing.
-use mathlib.Core.Path.{◌≡◌, refl, sym, ap, ◌∙◌, subst}
+use mathlib.Core.Path.{◌≡◌, refl, sym, subst}
 use mathlib.Core.List.{List, [], ◌∷◌}
-use Prim.Native.Nat.{ℕ, ◌+◌, ◌-◌, ◌≤◌}
+use Prim.Native.Nat.{ℕ, ◌-◌, ◌≤◌}
 use native.Mathlib.Omega.{arith}
 use Rattle.std.proofs.Common.{zero-le}
 use lib.ListN.{length}
@@ -21,12 +21,12 @@ use Rattle.rules.specs.declared.Answer.{Answer}
 use Rattle.rules.specs.declared.Answer.TheVariants.{Refused as ARefused, Spent as ASpent, NotLoaded}
 use Rattle.rules.specs.Store.{Store, empty}
 use Rattle.rules.specs.Machine.{enter, ret, Cfg, going, stop}
-use Rattle.rules.specs.Runs.{start, refused, finished, Comes, Answered, stopped, valued, Budgeted, ended, spent, of_encoded, out_of, value_encoded}
+use Rattle.rules.specs.Runs.{start, refused, finished, Comes, stopped, valued, Budgeted, ended, spent, out_of, value_encoded}
 use Rattle.rules.specs.Go.{Go}
 use Rattle.rules.proofs.Going.{◌then◌}
 use Rattle.rules.proofs.BreakMoves.{break_at_root}
 use Rattle.stores.specs.View.{view}
-use Rattle.stores.specs.Stores.{store_of, bindings_in, pendings_in, cells_in, takes_of, Fits}
+use Rattle.stores.specs.Stores.{store_of, bindings_in, pendings_in, cells_in, takes_of}
 use Rattle.outcomes.specs.declared.Outcome.{Outcome}
 use Rattle.outcomes.specs.declared.Outcome.TheVariants.{Done, Broke, Refused, Spent}
 use Rattle.outcomes.specs.Post.{Ready, Ways, Post}

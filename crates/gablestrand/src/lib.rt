@@ -1,4 +1,6 @@
 // One call of the constant evaluator: an image, a budget and lent stores in, an answer out.
+#![tactic(auto)]
+
 ghost use Rattle.std.specs.Prelude.{◌≡◌, length};
 ghost use Rattle.image.specs.declared.Loaded.TheVariants.{Image};
 ghost use Rattle.image.specs.Load.{load_of};
@@ -140,9 +142,8 @@ fn length_of(answer: Answer) -> u64
     }
 }
 
-// The same for callers in C and Rust: 0 for a value, whose place is 0, or the refusal's number, whose length is 0.
-#[unsafe(no_mangle)]
-pub extern "C" fn gablestrand_evaluate(
+// The same in numbers, for callers in C and Rust (`gablestrand_c` exports it): 0 for a value, whose place is 0, or the refusal's number, whose length is 0.
+pub fn gablestrand_evaluate(
     image: &[u8],
     budget: u64,
     words: &mut [u64],

@@ -9,7 +9,7 @@ use native.Mathlib.Decide.{dec_lt, ℕ_discrete}
 use native.Mathlib.Omega.{arith}
 use borrow.Author.Tests.{leb-true, ltb-true, eqb-true, eq-eqb, ne_eqb, not-false}
 use lib.Dec.{leb, ltb, eqb}
-use lib.ListN.{length, get_or-eq_default}
+use lib.ListN.{get_or-eq_default}
 use Rattle.utf8.specs.Utf8.{utf8_of}
 use Rattle.fields.proofs.Tests.{and_both}
 use Rattle.packed.specs.declared.layout.Header.{Header}

@@ -1,4 +1,6 @@
 // Which images of document 01 load, and the refusals 1 to 4 of those that do not.
+#![tactic(auto)]
+
 ghost use Rattle.std.specs.Prelude.{◌≡◌};
 ghost use Rattle.packed.specs.Layout.{header_of};
 ghost use Rattle.image.specs.Load.{judged, load_of, number_of, place_of};

@@ -1,4 +1,6 @@
 // Loading for callers in C and Rust.
+#![tactic(auto)]
+
 ghost use Rattle.std.specs.Prelude.{◌≡◌, ◌+◌, ◌*◌};
 ghost use Rattle.image.specs.Load.{load_of, number_of, place_of};
 

@@ -1,10 +1,11 @@
 // Images that a loop builds: long targets, and a node that is named more often than a byte counts.
-use crate::show::show_start;
-use fields::put;
-
-// Room for 259 nodes and a literal.
 ghost use Rattle.std.specs.Prelude.{◌≤◌};
 
+use crate::show::show_start;
+use fields::put;
+use std::io;
+
+// Room for 259 nodes and a literal.
 const ROOM: usize = 2090;
 
 // The header of an image of that many nodes and one literal, whose root is node 1, and the literal: 7.
@@ -26,8 +27,8 @@ fn node(image: &mut [u8; ROOM], n: u16, kind: u64, a: u16, next: u16) {
     put(image, at + 43, 12, next as u64);
 }
 
-fn show_nodes(label: &[u8], image: &[u8; ROOM], nodes: u16) {
-    show_start(label, image, 18 + 8 * nodes as usize);
+fn show_nodes(rt: &impl Print, label: &[u8], image: &[u8; ROOM], nodes: u16) -> io::Result<()> {
+    show_start(rt, label, image, 18 + 8 * nodes as usize)
 }
 
 // The nodes 2 to last - 1: indices that each have the node after it as their target, or a chain of breaks that all have the
@@ -46,18 +47,18 @@ fn between(image: &mut [u8; ROOM], last: u16, breaks: bool) {
 }
 
 // A read of a target of that many parts: `a.0.0.0 ..`.
-fn target(label: &[u8], parts: u8) {
+fn target(rt: &impl Print, label: &[u8], parts: u8) -> io::Result<()> {
     let mut image = [0u8; ROOM];
     let last = parts as u16 + 2;
     frame(&mut image, last);
     node(&mut image, 1, 8, 2, 0);
     between(&mut image, last, false);
     node(&mut image, last, 21, 0, 0);
-    show_nodes(label, &image, last);
+    show_nodes(rt, label, &image, last)
 }
 
 // A scope of that many breaks, all with one node as their value.
-fn named(label: &[u8], times: u16)
+fn named(rt: &impl Print, label: &[u8], times: u16) -> io::Result<()>
     requires { times ≤ 257 }
 {
     let mut image = [0u8; ROOM];
@@ -67,14 +68,14 @@ fn named(label: &[u8], times: u16)
     between(&mut image, last, true);
     node(&mut image, last - 1, 12, last, 0);
     node(&mut image, last, 9, 0, 0);
-    show_nodes(label, &image, last);
+    show_nodes(rt, label, &image, last)
 }
 
-pub fn all() {
-    target(b"target of 64", 64);
-    target(b"target of 65", 65);
-    target(b"target of 66", 66);
-    named(b"node 3 named once", 1);
-    named(b"node 258 named 256 times", 256);
-    named(b"node 259 named 257 times (u8 wrap gives 1)", 257);
+pub fn all(rt: &impl Print) -> io::Result<()> {
+    target(rt, b"target of 64", 64)?;
+    target(rt, b"target of 65", 65)?;
+    target(rt, b"target of 66", 66)?;
+    named(rt, b"node 3 named once", 1)?;
+    named(rt, b"node 258 named 256 times", 256)?;
+    named(rt, b"node 259 named 257 times (u8 wrap gives 1)", 257)
 }

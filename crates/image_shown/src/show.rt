@@ -1,24 +1,20 @@
 // The line for an image.
 use image::load;
-use libc::STDOUT_FILENO;
+use std::io;
 
-pub fn show(label: &[u8], image: &[u8]) {
+pub fn show(rt: &impl Print, label: &[u8], image: &[u8]) -> io::Result<()> {
     let loaded = load(image);
-    io::write_all(STDOUT_FILENO, label);
+    rt.write_all(label)?;
     if loaded.number() == 0 {
-        io::write_all(STDOUT_FILENO, b": loads\n");
-        return;
+        return rt.write_all(b": loads\n");
     }
-    io::write_all(STDOUT_FILENO, b": ");
-    io::print_decimal(STDOUT_FILENO, loaded.number() as u64);
-    io::write_all(STDOUT_FILENO, b" at ");
-    io::print_decimal(STDOUT_FILENO, loaded.place() as u64);
-    io::write_all(STDOUT_FILENO, b"\n");
+    println!(rt; ": {} at {}", loaded.number(), loaded.place())
 }
 
 // An image that is the first n bytes of an array.
-pub fn show_start(label: &[u8], bytes: &[u8], n: usize) {
+pub fn show_start(rt: &impl Print, label: &[u8], bytes: &[u8], n: usize) -> io::Result<()> {
     if n <= bytes.len() {
-        show(label, &bytes[0..n]);
+        return show(rt, label, &bytes[0..n]);
     }
+    Ok(())
 }

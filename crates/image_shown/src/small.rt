@@ -1,69 +1,79 @@
 // Small images, each for one rule. A line of bytes is a record.
 use crate::show::show;
+use std::io;
 
 // Refusals 1 and 2.
-fn lengths_and_headers() {
-    show(b"empty image", b"");
+fn lengths_and_headers(rt: &impl Print) -> io::Result<()> {
+    show(rt, b"empty image", b"")?;
     show(
+        rt,
         b"edition 0 and wrong length -> 2 before 1",
         b"\x00\x00\x01\x00\x10\x00\x00\x01\
           \x48\x00\x00\x00\x00\x00\x00\x00\
           \x30\x00\x00\x00\x00\x00\x00\x00\x00\x07\
           \x78",
-    );
+    )?;
     show(
+        rt,
         b"one byte short",
         b"\x10\x00\x01\x00\x10\x00\x00\x01\
           \x48\x00\x00\x00\x00\x00\x00\x00\
           \x30\x00\x00\x00\x00\x00\x00\x00\x00",
-    );
+    )?;
     show(
+        rt,
         b"root 2 of 1 and wrong length -> 1",
         b"\x10\x00\x01\x00\x10\x00\x00\x02\
           \x48\x00\x00\x00\x00\x00\x00\x00\
           \x30\x00\x00\x00\x00\x00\x00\x00\x00\x07\
           \x78",
-    );
+    )
 }
 
 // Refusal 3, nodes.
-fn nodes() {
+fn nodes(rt: &impl Print) -> io::Result<()> {
     show(
+        rt,
         b"kind 31",
         b"\x10\x00\x01\x00\x10\x00\x00\x01\
           \xF8\x00\x00\x00\x00\x00\x00\x00\
           \x30\x00\x00\x00\x00\x00\x00\x00\x00\x07",
-    );
+    )?;
     show(
+        rt,
         b"value with tag",
         b"\x10\x00\x01\x00\x10\x00\x00\x01\
           \x48\x00\x20\x00\x00\x00\x00\x00\
           \x30\x00\x00\x00\x00\x00\x00\x00\x00\x07",
-    );
+    )?;
     show(
+        rt,
         b"next above N",
         b"\x10\x00\x01\x00\x10\x00\x00\x01\
           \x48\x00\x00\x00\x00\x00\x04\x00\
           \x30\x00\x00\x00\x00\x00\x00\x00\x00\x07",
-    );
+    )?;
     show(
+        rt,
         b"binary b=0",
         b"\x10\x00\x02\x00\x10\x00\x00\x01\
           \x10\x00\x00\x04\x00\x00\x00\x00\
           \x48\x00\x00\x00\x00\x00\x00\x00\
           \x30\x00\x00\x00\x00\x00\x00\x00\x00\x07",
-    );
+    )?;
     show(
+        rt,
         b"tuple chain 0",
         b"\x10\x00\x01\x00\x10\x00\x00\x01\
           \x70\x00\x00\x00\x00\x00\x00\x00\
           \x30\x00\x00\x00\x00\x00\x00\x00\x00\x07",
-    );
+    )
 }
 
 // Refusal 3, a node before its literal.
-fn nodes_and_literals() {
+fn nodes_and_literals(rt: &impl Print) -> io::Result<()> {
     show(
+        rt,
         b"let op 2",
         b"\x10\x00\x05\x00\x10\x00\x00\x01\
           \x50\x00\x00\x04\x00\x00\x00\x00\
@@ -72,141 +82,158 @@ fn nodes_and_literals() {
           \x48\x00\x00\x00\x00\x00\x00\x00\
           \x08\x00\x00\x00\x00\x00\x00\x00\
           \x30\x00\x00\x00\x00\x00\x00\x00\x00\x07",
-    );
+    )?;
     show(
+        rt,
         b"text node on a kind-9 literal: node is first bad",
         b"\x10\x00\x02\x00\x10\x00\x00\x01\
           \x30\x00\x00\x04\x00\x00\x00\x00\
           \x88\x00\x00\x00\x00\x00\x00\x00\
           \x90\x00\x00\x00\x00\x00\x00\x00\x00\x00",
-    );
+    )
 }
 
 // Refusal 3, functions.
-fn functions() {
+fn functions(rt: &impl Print) -> io::Result<()> {
     show(
+        rt,
         b"fn body>N",
         b"\x10\x10\x01\x00\x10\x00\x00\x01\
           \x00\x20\x00\x00\
           \x48\x00\x00\x00\x00\x00\x00\x00\
           \x30\x00\x00\x00\x00\x00\x00\x00\x00\x07",
-    );
+    )?;
     show(
+        rt,
         b"fn first 1010 argc 15 reaches 1024",
         b"\x10\x10\x02\x00\x10\x00\x00\x01\
           \x00\x2F\xFC\x80\
           \x48\x00\x00\x00\x00\x00\x00\x00\
           \x08\x00\x00\x00\x00\x00\x00\x00\
           \x30\x00\x00\x00\x00\x00\x00\x00\x00\x07",
-    );
+    )
 }
 
 // Refusal 3, literals.
-fn literals() {
+fn literals(rt: &impl Print) -> io::Result<()> {
     show(
+        rt,
         b"bool 2",
         b"\x10\x00\x01\x00\x10\x00\x00\x01\
           \x48\x00\x00\x00\x00\x00\x00\x00\
           \x10\x00\x00\x00\x00\x00\x00\x00\x00\x02",
-    );
+    )?;
     show(
+        rt,
         b"literal zero12",
         b"\x10\x00\x01\x00\x10\x00\x00\x01\
           \x48\x00\x00\x00\x00\x00\x00\x00\
           \x30\x01\x00\x00\x00\x00\x00\x00\x00\x07",
-    );
+    )?;
     show(
+        rt,
         b"text start 0 len 2, T=1",
         b"\x10\x00\x01\x00\x10\x00\x10\x01\
           \x48\x00\x00\x00\x00\x00\x00\x00\
           \x60\x00\x00\x00\x00\x00\x00\x00\x00\x02\
           \x78",
-    );
+    )
 }
 
 // Refusal 3, text.
-fn texts() {
+fn texts(rt: &impl Print) -> io::Result<()> {
     show(
+        rt,
         b"utf8 surrogate ED A0 80",
         b"\x10\x00\x01\x00\x10\x00\x30\x01\
           \x48\x00\x00\x00\x00\x00\x00\x00\
           \x60\x00\x00\x00\x00\x00\x00\x00\x00\x03\
           \xED\xA0\x80",
-    );
+    )?;
     show(
+        rt,
         b"utf8 cut C3",
         b"\x10\x00\x01\x00\x10\x00\x10\x01\
           \x48\x00\x00\x00\x00\x00\x00\x00\
           \x60\x00\x00\x00\x00\x00\x00\x00\x00\x01\
           \xC3",
-    );
+    )?;
     show(
+        rt,
         b"utf8 lone 80",
         b"\x10\x00\x01\x00\x10\x00\x10\x01\
           \x48\x00\x00\x00\x00\x00\x00\x00\
           \x60\x00\x00\x00\x00\x00\x00\x00\x00\x01\
           \x80",
-    );
+    )?;
     show(
+        rt,
         b"text literal in the middle of a 2-byte char",
         b"\x10\x00\x01\x00\x10\x00\x20\x01\
           \x48\x00\x00\x00\x00\x00\x00\x00\
           \x60\x00\x00\x00\x00\x00\x00\x01\x00\x01\
           \xC3\xA9",
-    );
+    )
 }
 
 // Refusal 4, what is named.
-fn namings() {
+fn namings(rt: &impl Print) -> io::Result<()> {
     show(
+        rt,
         b"node 2 never named",
         b"\x10\x00\x02\x00\x10\x00\x00\x01\
           \x48\x00\x00\x00\x00\x00\x00\x00\
           \x48\x00\x00\x00\x00\x00\x00\x00\
           \x30\x00\x00\x00\x00\x00\x00\x00\x00\x07",
-    );
+    )?;
     show(
+        rt,
         b"body is a vec",
         b"\x10\x10\x02\x00\x10\x00\x00\x01\
           \x00\x20\x00\x00\
           \x48\x00\x00\x00\x00\x00\x00\x00\
           \x68\x00\x00\x00\x00\x00\x00\x00\
           \x30\x00\x00\x00\x00\x00\x00\x00\x00\x07",
-    );
+    )?;
     show(
+        rt,
         b"binary names same node twice",
         b"\x10\x00\x02\x00\x10\x00\x00\x01\
           \x10\x00\x00\x04\x00\x40\x00\x00\
           \x48\x00\x00\x00\x00\x00\x00\x00\
           \x30\x00\x00\x00\x00\x00\x00\x00\x00\x07",
-    );
+    )
 }
 
 // Refusal 4, the root.
-fn roots() {
+fn roots(rt: &impl Print) -> io::Result<()> {
     show(
+        rt,
         b"root is a target",
         b"\x10\x00\x01\x00\x00\x00\x00\x01\
           \xA8\x00\x00\x00\x00\x00\x00\x00",
-    );
+    )?;
     show(
+        rt,
         b"root is a text",
         b"\x10\x00\x01\x00\x10\x00\x00\x01\
           \x88\x00\x00\x00\x00\x00\x00\x00\
           \x60\x00\x00\x00\x00\x00\x00\x00\x00\x00",
-    );
+    )?;
     show(
+        rt,
         b"root is not node 1",
         b"\x10\x10\x02\x00\x00\x00\x00\x02\
           \x00\x10\x00\x00\
           \x08\x00\x00\x00\x00\x00\x00\x00\
           \x08\x00\x00\x00\x00\x00\x00\x00",
-    );
+    )
 }
 
 // Refusal 4, what names.
-fn references() {
+fn references(rt: &impl Print) -> io::Result<()> {
     show(
+        rt,
         b"backward naming with next on the lower: stray at 2",
         b"\x10\x00\x05\x00\x10\x00\x00\x01\
           \x10\x00\x00\x06\x00\xA0\x00\x00\
@@ -215,61 +242,69 @@ fn references() {
           \x48\x00\x00\x00\x00\x00\x00\x00\
           \x48\x00\x00\x00\x00\x00\x00\x00\
           \x30\x00\x00\x00\x00\x00\x00\x00\x00\x07",
-    );
+    )?;
     show(
+        rt,
         b"root carries next",
         b"\x10\x00\x02\x00\x10\x00\x00\x01\
           \x48\x00\x00\x00\x00\x00\x04\x00\
           \x48\x00\x00\x00\x00\x00\x00\x00\
           \x30\x00\x00\x00\x00\x00\x00\x00\x00\x07",
-    );
+    )?;
     show(
+        rt,
         b"read of an expression",
         b"\x10\x00\x02\x00\x10\x00\x00\x01\
           \x40\x00\x00\x04\x00\x00\x00\x00\
           \x48\x00\x00\x00\x00\x00\x00\x00\
           \x30\x00\x00\x00\x00\x00\x00\x00\x00\x07",
-    );
+    )?;
     show(
+        rt,
         b"kind 17 inside a vec",
         b"\x10\x00\x02\x00\x10\x00\x00\x01\
           \x68\x00\x00\x04\x00\x00\x00\x00\
           \x88\x00\x00\x00\x00\x00\x00\x00\
           \x60\x00\x00\x00\x00\x00\x00\x00\x00\x00",
-    );
+    )
 }
 
 // Images that load: literals.
-fn good_literals() {
+fn good_literals(rt: &impl Print) -> io::Result<()> {
     show(
+        rt,
         b"char E000",
         b"\x10\x00\x01\x00\x10\x00\x00\x01\
           \x48\x00\x00\x00\x00\x00\x00\x00\
           \x50\x00\x00\x00\x00\x00\x00\x00\xE0\x00",
-    );
+    )?;
     show(
+        rt,
         b"unit: 1 byte 00",
         b"\x10\x00\x01\x00\x10\x00\x00\x01\
           \x48\x00\x00\x00\x00\x00\x00\x00\
           \x00\x00\x00\x00\x00\x00\x00\x00\x00\x00",
-    );
+    )?;
     show(
+        rt,
         b"bytes",
         b"\x10\x00\x01\x00\x10\x00\x20\x01\
           \x48\x00\x00\x00\x00\x00\x00\x00\
           \x70\x00\x00\x00\x00\x00\x00\x00\x00\x02\
           \x01\x02",
-    );
+    )?;
     show(
+        rt,
         b"template empty",
         b"\x10\x00\x01\x00\x00\x00\x00\x01\
           \x30\x00\x00\x00\x00\x00\x00\x00",
-    );
+    )
 }
 
 // Images that load: operations.
-fn good_operations() {
+fn good_operations(rt: &impl Print) -> io::Result<()> {
     show(
+        rt,
         b"7/-2",
         b"\x10\x00\x03\x00\x20\x00\x00\x01\
           \x11\x80\x00\x04\x00\x60\x00\x00\
@@ -277,8 +312,9 @@ fn good_operations() {
           \x48\x00\x00\x02\x00\x00\x00\x00\
           \x30\x00\x00\x00\x00\x00\x00\x00\x00\x07\
           \x30\x00\xFF\xFF\xFF\xFF\xFF\xFF\xFF\xFE",
-    );
+    )?;
     show(
+        rt,
         b"assign: missing name beats operand type",
         b"\x10\x00\x03\x00\x10\x00\x10\x01\
           \x28\x00\x00\x04\x00\x60\x00\x00\
@@ -286,12 +322,13 @@ fn good_operations() {
           \x48\x00\x00\x00\x00\x00\x00\x00\
           \x60\x00\x00\x00\x00\x00\x00\x00\x00\x01\
           \x61",
-    );
+    )
 }
 
 // Images that load: targets.
-fn good_targets() {
+fn good_targets(rt: &impl Print) -> io::Result<()> {
     show(
+        rt,
         b"field of non-object set: own",
         b"\x10\x00\x07\x00\x20\x00\x10\x01\
           \x08\x00\x00\x04\x00\x00\x00\x00\
@@ -304,12 +341,13 @@ fn good_targets() {
           \x30\x00\x00\x00\x00\x00\x00\x00\x00\x01\
           \x60\x00\x00\x00\x00\x00\x00\x00\x00\x01\
           \x78",
-    );
+    )
 }
 
 // Images that load: branches and loops.
-fn good_branches() {
+fn good_branches(rt: &impl Print) -> io::Result<()> {
     show(
+        rt,
         b"if let x=5 {x}",
         b"\x10\x00\x06\x00\x10\x00\x00\x01\
           \x50\x00\x00\x04\x00\x00\x00\x00\
@@ -319,8 +357,9 @@ fn good_branches() {
           \x08\x00\x00\x00\x00\xC0\x00\x00\
           \x38\x00\x60\x00\x00\x00\x00\x00\
           \x30\x00\x00\x00\x00\x00\x00\x00\x00\x05",
-    );
+    )?;
     show(
+        rt,
         b"'a: loop {loop {break 'a 5}}",
         b"\x10\x00\x06\x00\x10\x00\x00\x01\
           \x58\x00\x20\x00\x00\x40\x00\x00\
@@ -330,12 +369,13 @@ fn good_branches() {
           \x60\x00\x20\x0C\x00\x00\x00\x00\
           \x48\x00\x00\x00\x00\x00\x00\x00\
           \x30\x00\x00\x00\x00\x00\x00\x00\x00\x05",
-    );
+    )
 }
 
 // Images that load: calls.
-fn good_calls() {
+fn good_calls(rt: &impl Print) -> io::Result<()> {
     show(
+        rt,
         b"break in an argument ends the caller loop",
         b"\x10\x10\x07\x00\x10\x00\x00\x01\
           \x00\x61\x00\x00\
@@ -347,8 +387,9 @@ fn good_calls() {
           \x08\x00\x00\x00\x00\xE0\x00\x00\
           \x38\x00\x00\x00\x00\x00\x00\x00\
           \x30\x00\x00\x00\x00\x00\x00\x00\x00\x04",
-    );
+    )?;
     show(
+        rt,
         b"isolation",
         b"\x10\x10\x06\x00\x10\x00\x00\x01\
           \x00\x50\x00\x00\
@@ -359,30 +400,31 @@ fn good_calls() {
           \x08\x00\x00\x00\x00\xC0\x00\x00\
           \x38\x00\x00\x00\x00\x00\x00\x00\
           \x30\x00\x00\x00\x00\x00\x00\x00\x00\x01",
-    );
+    )?;
     show(
+        rt,
         b"recursion to depth",
         b"\x10\x10\x03\x00\x00\x00\x00\x01\
           \x00\x20\x00\x00\
           \x80\x00\x00\x00\x00\x00\x00\x00\
           \x08\x00\x00\x00\x00\x60\x00\x00\
           \x80\x00\x00\x00\x00\x00\x00\x00",
-    );
+    )
 }
 
-pub fn all() {
-    lengths_and_headers();
-    nodes();
-    nodes_and_literals();
-    functions();
-    literals();
-    texts();
-    namings();
-    roots();
-    references();
-    good_literals();
-    good_operations();
-    good_targets();
-    good_branches();
-    good_calls();
+pub fn all(rt: &impl Print) -> io::Result<()> {
+    lengths_and_headers(rt)?;
+    nodes(rt)?;
+    nodes_and_literals(rt)?;
+    functions(rt)?;
+    literals(rt)?;
+    texts(rt)?;
+    namings(rt)?;
+    roots(rt)?;
+    references(rt)?;
+    good_literals(rt)?;
+    good_operations(rt)?;
+    good_targets(rt)?;
+    good_branches(rt)?;
+    good_calls(rt)
 }

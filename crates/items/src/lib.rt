@@ -1,4 +1,6 @@
 // An item accepted, and what is built when all items are there.
+#![tactic(auto)]
+
 ghost use Rattle.std.specs.Prelude.{◌≡◌, length};
 ghost use Rattle.packed.specs.Layout.{node_at};
 ghost use Rattle.rules.specs.Machine.{item_node};

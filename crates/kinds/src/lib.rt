@@ -1,6 +1,8 @@
 // 01's table of kinds: how many ops each has, and what its fields hold.
+#![tactic(auto)]
+
 ghost use Rattle.std.specs.Prelude.{◌≡◌};
-ghost use Rattle.kinds.specs.Kinds.{is_within, is_of, row as rowWith, row_of};
+ghost use Rattle.kinds.specs.Kinds.{is_within, is_of, row as row_with, row_of};
 
 // The kinds that a reference may go to.
 #[derive(Clone, Copy)]
@@ -127,7 +129,7 @@ const TARGET: Role = Role::Node(true, false, Class::Target);
 
 // A line as the table below writes it.
 fn row(ops: u8, tag: Role, a: Role, b: Role) -> KindRow
-    ensures { result ≡ rowWith ops tag a b }
+    ensures { result ≡ row_with ops tag a b }
 {
     KindRow { ops, tag, a, b }
 }

@@ -1,4 +1,6 @@
 // Expressions that evaluate no other: names, literals, and targets that are read.
+#![tactic(auto)]
+
 ghost use Rattle.rules.specs.Machine.{Ctl};
 ghost use Rattle.stores.specs.Stores.{Fits};
 ghost use Rattle.building.specs.Making.{IsKind};

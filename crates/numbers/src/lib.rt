@@ -1,5 +1,7 @@
 // The numbers of the constant evaluator: operations on i64 that refuse instead of overflowing, operations on f64, both as
 // words of 64 bits, and decimal digits.
+#![tactic(auto)]
+
 pub mod decimal;
 pub mod int;
 pub mod word;

@@ -1,9 +1,11 @@
 // Every operation of `numbers` over the limits of its operands, a line for each pair. What it writes is held to what
 // oracle/numbers.rs writes.
-use libc::STDOUT_FILENO;
+#![tactic(auto)]
+
 use numbers::decimal::{Put, put_decimal};
 use numbers::word::{float_to_word, int_to_word, word_to_float, word_to_int};
 use numbers::{Arith, ArithRefusal, Binary};
+use std::io;
 
 // The limits, and the shift operands 63, 64 and 4294967295; -1, 0 and 4294967296 are among the limits.
 const INTS: [i64; 15] = [
@@ -66,129 +68,130 @@ fn word(k: usize) -> u64 {
     0
 }
 
-fn print_int(x: i64) {
+fn print_int(rt: &impl Print, x: i64) -> io::Result<()> {
     let mut text = [0u8; 20];
     let put = put_decimal(&mut text, 0, x);
     let Put::End(n) = put else {
-        return;
+        return Ok(());
     };
-    io::write_all(STDOUT_FILENO, &text[..n]);
+    rt.write_all(&text[..n])
 }
 
-fn print_word(w: u64) {
-    io::print_hex(STDOUT_FILENO, w, 16);
+fn print_word(rt: &impl Print, w: u64) -> io::Result<()> {
+    print!(rt; "{w:016x}")
 }
 
 // A refusal by its number; 0, which none has, stands for an op that is not listed.
-fn print_refused(number: u64) {
-    io::write_all(STDOUT_FILENO, b"!");
-    io::print_decimal(STDOUT_FILENO, number);
+fn print_refused(rt: &impl Print, number: u64) -> io::Result<()> {
+    print!(rt; "!{number}")
 }
 
-fn print_arith_refusal(why: ArithRefusal) {
+fn print_arith_refusal(rt: &impl Print, why: ArithRefusal) -> io::Result<()> {
     match why {
-        ArithRefusal::Overflow => print_refused(16),
-        ArithRefusal::Division => print_refused(17),
-        ArithRefusal::ShiftOperand => print_refused(18),
+        ArithRefusal::Overflow => print_refused(rt, 16),
+        ArithRefusal::Division => print_refused(rt, 17),
+        ArithRefusal::ShiftOperand => print_refused(rt, 18),
     }
 }
 
-fn print_bool(b: bool) {
+fn print_bool(rt: &impl Print, b: bool) -> io::Result<()> {
     if b {
-        io::write_all(STDOUT_FILENO, b"true");
+        rt.write_all(b"true")
     } else {
-        io::write_all(STDOUT_FILENO, b"false");
+        rt.write_all(b"false")
     }
 }
 
-fn print_arith(a: Arith) {
-    io::write_all(STDOUT_FILENO, b" ");
+fn print_arith(rt: &impl Print, a: Arith) -> io::Result<()> {
+    rt.write_all(b" ")?;
     match a {
-        Arith::Value(z) => print_int(z),
-        Arith::Refused(why) => print_arith_refusal(why),
-        Arith::Unlisted => print_refused(0),
+        Arith::Value(z) => print_int(rt, z),
+        Arith::Refused(why) => print_arith_refusal(rt, why),
+        Arith::Unlisted => print_refused(rt, 0),
     }
 }
 
-fn print_binary(b: Binary) {
-    io::write_all(STDOUT_FILENO, b" ");
+fn print_binary(rt: &impl Print, b: Binary) -> io::Result<()> {
+    rt.write_all(b" ")?;
     match b {
-        Binary::Signed(z) => print_int(z),
-        Binary::Float(z) => print_word(float_to_word(z)),
-        Binary::Bool(z) => print_bool(z),
-        Binary::Refused(why) => print_arith_refusal(why),
-        Binary::NotConst => print_refused(12),
-        Binary::Unlisted => print_refused(0),
+        Binary::Signed(z) => print_int(rt, z),
+        Binary::Float(z) => print_word(rt, float_to_word(z)),
+        Binary::Bool(z) => print_bool(rt, z),
+        Binary::Refused(why) => print_arith_refusal(rt, why),
+        Binary::NotConst => print_refused(rt, 12),
+        Binary::Unlisted => print_refused(rt, 0),
     }
 }
 
-fn binary_ints(x: i64, y: i64) {
+fn binary_ints(rt: &impl Print, x: i64, y: i64) -> io::Result<()> {
     for op in 0..11 {
-        print_binary(numbers::binary_int(op, x, y));
+        print_binary(rt, numbers::binary_int(op, x, y))?;
     }
+    Ok(())
 }
 
-fn assign_ints(x: i64, y: i64) {
+fn assign_ints(rt: &impl Print, x: i64, y: i64) -> io::Result<()> {
     for op in 0..6 {
-        print_arith(numbers::assign_int(op, x, y));
+        print_arith(rt, numbers::assign_int(op, x, y))?;
     }
+    Ok(())
 }
 
-fn binary_floats(x: f64, y: f64) {
+fn binary_floats(rt: &impl Print, x: f64, y: f64) -> io::Result<()> {
     for op in 0..11 {
-        print_binary(numbers::binary_float(op, x, y));
+        print_binary(rt, numbers::binary_float(op, x, y))?;
     }
+    Ok(())
 }
 
-fn int_line(x: i64, y: i64) {
-    print_int(x);
-    io::write_all(STDOUT_FILENO, b" ");
-    print_int(y);
-    io::write_all(STDOUT_FILENO, b":");
-    binary_ints(x, y);
-    io::write_all(STDOUT_FILENO, b" assign");
-    assign_ints(x, y);
-    io::write_all(STDOUT_FILENO, b"\n");
+fn int_line(rt: &impl Print, x: i64, y: i64) -> io::Result<()> {
+    print_int(rt, x)?;
+    rt.write_all(b" ")?;
+    print_int(rt, y)?;
+    rt.write_all(b":")?;
+    binary_ints(rt, x, y)?;
+    rt.write_all(b" assign")?;
+    assign_ints(rt, x, y)?;
+    rt.write_all(b"\n")
 }
 
-fn float_line(x: f64, y: f64) {
-    print_word(float_to_word(x));
-    io::write_all(STDOUT_FILENO, b" ");
-    print_word(float_to_word(y));
-    io::write_all(STDOUT_FILENO, b":");
-    binary_floats(x, y);
-    io::write_all(STDOUT_FILENO, b"\n");
+fn float_line(rt: &impl Print, x: f64, y: f64) -> io::Result<()> {
+    print_word(rt, float_to_word(x))?;
+    rt.write_all(b" ")?;
+    print_word(rt, float_to_word(y))?;
+    rt.write_all(b":")?;
+    binary_floats(rt, x, y)?;
+    rt.write_all(b"\n")
 }
 
 // A word as an i64, that as a word again, and the word as an f64 and as a word again.
-fn word_line(w: u64) {
-    print_word(w);
-    io::write_all(STDOUT_FILENO, b": ");
+fn word_line(rt: &impl Print, w: u64) -> io::Result<()> {
+    print_word(rt, w)?;
+    rt.write_all(b": ")?;
     let x = word_to_int(w);
-    print_int(x);
-    io::write_all(STDOUT_FILENO, b" ");
-    print_word(int_to_word(x));
-    io::write_all(STDOUT_FILENO, b" ");
-    print_word(float_to_word(word_to_float(w)));
-    io::write_all(STDOUT_FILENO, b"\n");
+    print_int(rt, x)?;
+    rt.write_all(b" ")?;
+    print_word(rt, int_to_word(x))?;
+    rt.write_all(b" ")?;
+    print_word(rt, float_to_word(word_to_float(w)))?;
+    rt.write_all(b"\n")
 }
 
 // The line with number k: the pairs of integers, the pairs of floats, the words.
-fn line(k: usize) {
+fn line(rt: &impl Print, k: usize) -> io::Result<()> {
     if k < 225 {
-        int_line(INTS[k / 15], INTS[k % 15]);
-        return;
+        return int_line(rt, INTS[k / 15], INTS[k % 15]);
     }
     if k < 306 {
         let pair = k - 225;
-        float_line(float(pair / 9), float(pair % 9));
-        return;
+        return float_line(rt, float(pair / 9), float(pair % 9));
     }
-    word_line(word(k - 306));
+    word_line(rt, word(k - 306))
 }
 
-fn main() {
+fn main(rt: HostRuntime) -> io::Result<()> {
     for k in 0..333 {
-        line(k);
+        line(&rt, k)?;
     }
+    Ok(())
 }

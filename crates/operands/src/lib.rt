@@ -1,4 +1,6 @@
 // What decl, set, assign, break and let conditions do with the value of their one operand.
+#![tactic(auto)]
+
 ghost use Rattle.std.specs.Prelude.{◌≡◌, [], ◌∷◌};
 ghost use Rattle.packed.specs.Layout.{node_at};
 ghost use Rattle.rules.specs.Machine.{Ctl, Frame, kind_of};

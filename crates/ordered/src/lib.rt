@@ -1,4 +1,6 @@
 // The entries of an object by ascending key: none is moved, and the next one is sought anew among all cells.
+#![tactic(auto)]
+
 ghost use Rattle.std.specs.Prelude.{◌≡◌, ◌≤◌, ◌<◌, length};
 ghost use Rattle.packed.specs.Layout.{size_of};
 ghost use Rattle.stores.specs.Stores.{Fits, cells_of};

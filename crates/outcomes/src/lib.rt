@@ -1,4 +1,6 @@
 // What the evaluation of an expression comes to, and what an evaluator promises of it (`Post`, in specs/).
+#![tactic(auto)]
+
 use rules::{Refusal, Value};
 
 // What an expression comes to: a value; a break, by its node and value; a refusal and its place; or the node at which the next take is refused.

@@ -1,8 +1,8 @@
 -- One piece after another: where the next goes, and what stops. Assumes nothing.
-use mathlib.Core.Path.{◌≡◌, refl, sym, ap, ap₂, ◌∙◌, subst}
+use mathlib.Core.Path.{◌≡◌, sym, subst}
 use mathlib.Core.Bool.{Bool}
 use mathlib.Core.List.{List, [], ◌∷◌, ◌++◌}
-use Prim.Native.Nat.{ℕ, suc, ◌+◌, ◌-◌, ◌*◌, ◌/◌, ◌%◌, ◌≤◌, ◌<◌}
+use Prim.Native.Nat.{ℕ, suc, ◌+◌, ◌-◌, ◌*◌, ◌/◌, ◌%◌, ◌≤◌}
 use native.Mathlib.Omega.{arith}
 use types.Run.{OneOf}
 use denote.Enum.Declared.{tag_of}
@@ -10,14 +10,14 @@ use lib.ListN.{length}
 use Rattle.packed.specs.declared.layout.Header.{Header}
 use Rattle.rules.specs.declared.Value.{Value}
 use Rattle.rules.specs.Store.{Store, empty}
-use Rattle.rules.specs.Output.{Piece, within, Encoded, pieces, encoded}
+use Rattle.rules.specs.Output.{Piece, within, pieces, encoded}
 use Rattle.stores.specs.Stores.{store_of}
 use Rattle.pouring.specs.declared.Spot.{Spot}
 use Rattle.pouring.specs.declared.Spot.TheVariants.{At, Nested}
-use Rattle.pouring.specs.Pouring.{spot_at, Poured, Passed, Puts}
+use Rattle.pouring.specs.Pouring.{Puts}
 use Rattle.pouring.specs.contracts.Spot.{the_type}
 use Rattle.pouring.proofs.Written.{encoded_keeps}
-use Rattle.pouring.proofs.Places.{reached, passed_none, passed_value, passed_then, passed_stop, passed_at, poured_value, poured_too_deep, puts_then, puts_stop, puts_at, no_place}
+use Rattle.pouring.proofs.Places.{passed_none, passed_value, passed_then, passed_stop, passed_at, poured_value, poured_too_deep, puts_then, puts_stop, puts_at, no_place}
 use Rattle.output.specs.Writing.{IsPlace, Encodes, Writes}
 
 -- what is told where there is no place

@@ -2,7 +2,7 @@
 use mathlib.Core.Path.{◌≡◌, refl, sym, ap, ◌∙◌, subst}
 use mathlib.Core.Bool.{Bool, true, false}
 use mathlib.Core.List.{List, [], ◌∷◌, ◌++◌, append-nil}
-use Prim.Native.Nat.{ℕ, suc, ◌+◌, ◌-◌, ◌*◌, ◌/◌, ◌%◌, ◌≤◌, ◌<◌}
+use Prim.Native.Nat.{ℕ, ◌+◌, ◌-◌, ◌*◌, ◌/◌, ◌≤◌}
 use native.Mathlib.Omega.{arith}
 use native.Mathlib.Nat.{sub-zero}
 use types.Run.{OneOf, miss}
@@ -13,14 +13,13 @@ use Rattle.rules.specs.declared.Value.{Value}
 use Rattle.rules.specs.declared.Value.TheVariants.{Unit as VUnit, Bool as VBool, Char, Unsigned, Signed, Float as VFloat, Text, Bytes, Vec, Tuple, Object}
 use Rattle.rules.specs.contracts.Value.{the_type}
 use Rattle.rules.specs.Store.{Store}
-use Rattle.rules.specs.Output.{Piece, Encoded, bits, nested, full, pieces, encoded, bytes_for, entry_pieces, sorted_entries}
+use Rattle.rules.specs.Output.{Piece, Encoded, bits, nested, full, pieces, encoded, entry_pieces, sorted_entries}
 use Rattle.rules.specs.Runs.{out_of, value_encoded}
 use Rattle.stores.specs.Stores.{store_of}
 use Rattle.pouring.specs.declared.Spot.{Spot}
 use Rattle.pouring.specs.declared.Spot.TheVariants.{At, Nested, Full}
-use Rattle.pouring.specs.Pouring.{spot_of, poured, Poured, Puts}
+use Rattle.pouring.specs.Pouring.{Poured, Puts}
 use Rattle.pouring.proofs.Places.{reached, poured_all}
-use Rattle.output.specs.declared.Written.{Written}
 use Rattle.output.specs.declared.Written.TheVariants.{Length, Nested as WNested, Full as WFull}
 use Rattle.output.specs.Writing.{IsPlace, head_pieces, item_pieces, object_pieces, Encodes, Writes, written_of, Wrote}
 use Rattle.output.proofs.Steps.{Stuck, writes_on, writes_stuck, writes_place, writes_puts, writes_value, encodes_pieces}

@@ -1,5 +1,5 @@
 -- Writing a value (01 'Output'): what the writers ask and promise.
-use Rattle.std.specs.Prelude.{ℕ, suc, ◌+◌, ◌-◌, ◌*◌, ◌≤◌, ◌<◌, ◌≡◌, Bool, List, [], ◌∷◌, ◌++◌, length, get_or}
+use Rattle.std.specs.Prelude.{ℕ, suc, ◌+◌, ◌-◌, ◌*◌, ◌≤◌, ◌<◌, ◌≡◌, Bool, List, [], ◌∷◌, length, get_or}
 use Rattle.packed.specs.declared.layout.Header.{Header}
 use Rattle.packed.specs.Layout.{size_of}
 use Rattle.numbers.specs.Words.{word_of}
@@ -7,7 +7,7 @@ use Rattle.numbers.specs.Floats.{float_word_of}
 use Rattle.rules.specs.declared.Value.{Value}
 use Rattle.rules.specs.declared.Value.TheVariants.{Unit as VUnit, Bool as VBool, Char, Unsigned, Signed, Float as VFloat, Text, Bytes, Vec, Tuple, Object}
 use Rattle.rules.specs.Store.{head, Store, text_of, count_in, value_in}
-use Rattle.rules.specs.Output.{Piece, put, within, Encoded, bits, nested, full, bytes_for, bool_bit, length_and_bytes, items_from, sorted_entries, entry_pieces, encoded}
+use Rattle.rules.specs.Output.{Piece, put, Encoded, bits, nested, full, bytes_for, bool_bit, length_and_bytes, items_from, sorted_entries, entry_pieces, encoded}
 use Rattle.rules.specs.Runs.{out_of, value_encoded}
 use Rattle.stores.specs.Stores.{store_of, Fits}
 use Rattle.ordered.specs.Ordered.{key_text}

@@ -1,4 +1,6 @@
 // A value as bits in the output (01 'Output'). It is gone through twice by the same code: measured, so that a refusal leaves the output as it is, and then written.
+#![tactic(auto)]
+
 ghost use Rattle.std.specs.Prelude.{◌≡◌, [], ◌∷◌, ◌+◌, ◌*◌, ◌/◌, ◌^◌, ◌≤◌, ◌<◌, length};
 ghost use Rattle.packed.specs.Layout.{size_of};
 ghost use Rattle.boxes.specs.Cells.{CellAt};

@@ -1,2 +1,4 @@
 // The packed image of document 01, edition 1: where its fields stand.
+#![tactic(auto)]
+
 pub mod layout; // header and records by their fields, and the places of the regions

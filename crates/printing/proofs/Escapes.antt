@@ -1,10 +1,9 @@
 -- The three ways in which a byte stands between quotes. Assumes nothing.
-use mathlib.Core.Path.{◌≡◌, refl, sym, ap, ◌∙◌}
+use mathlib.Core.Path.{◌≡◌, sym, ap, ◌∙◌}
 use mathlib.Core.Bool.{Bool, true, false}
-use mathlib.Core.List.{List, [], ◌∷◌, ◌++◌}
+use mathlib.Core.List.{[], ◌∷◌}
 use Prim.Native.Nat.{ℕ}
 use borrow.Author.Tests.{eq-eqb, ne_eqb}
-use lib.Dec.{eqb}
 use Rattle.printing.specs.Page.{Page, with_byte, with_bytes, hex_of, marked, letter_of, is_printable, escape_of}
 use Rattle.printing.proofs.Pages.{in_two}
 

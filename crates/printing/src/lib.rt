@@ -1,10 +1,14 @@
 // Text for people: collected in a page, which is a lent slice and how many of its bytes are written, and sent off once. A byte
 // that has no room is left out; the page is then full, and a full page is told and not sent.
+#![tactic(auto)]
+
 ghost use Rattle.std.specs.Prelude.{◌≡◌, ◌∷◌, [], ◌<◌, min, max};
 ghost use Rattle.io.specs.Digits.{hex_digit_ascii};
 ghost use Rattle.printing.specs.Page.{page, with_byte, with_bytes, hex_of, letter_of, is_printable, escape_of, InBase};
 
-use libc::{STDERR_FILENO, STDOUT_FILENO};
+use std::fmt;
+use std::fmt::Write;
+use std::io::Error;
 
 // One byte more.
 pub fn byte(out: &mut [u8], at: usize, b: u8) -> usize
@@ -128,33 +132,71 @@ pub fn escaped(out: &mut [u8], at: usize, b: u8, quote: u8) -> usize
     hex_byte(out, next, b)
 }
 
+// What the system says of an error has room here.
+#[derive(Drop)]
+struct Text {
+    page: [u8; 128],
+    at: usize,
+}
+
+impl fmt::Write for Text {
+    fn write_str(&mut self, s: &str) -> fmt::Result {
+        self.at = bytes(&mut self.page, self.at, s.as_bytes());
+        Ok(())
+    }
+}
+
+// An error's number stands behind the system's words for it.
+const NUMBER: &[u8] = b" (os error ";
+
+fn without_number(text: &[u8]) -> &[u8] {
+    for i in 0..text.len() {
+        if text[i..].starts_with(NUMBER) {
+            return &text[..i];
+        }
+    }
+    text
+}
+
+// Writes a line: what failed, as the caller names it, a colon and why.
+fn fail(stderr: &impl Print, what: &[u8], error: &Error) {
+    let mut text = Text {
+        page: [0u8; 128],
+        at: 0,
+    };
+    let _ = write!(text, "{error}");
+    let _ = stderr.write_all(what);
+    let _ = stderr.write_all(b": ");
+    let _ = stderr.write_all(without_number(&text.page[..text.at.min(128)]));
+    let _ = stderr.write_all(b"\n");
+}
+
 // Sends a page's text to standard output, whole, or says on standard error that it did not.
-pub fn send(out: &[u8], at: usize) -> bool {
+pub fn send(stdout: &impl Print, stderr: &impl Print, out: &[u8], at: usize) -> bool {
     if at >= out.len() {
-        io::write_all(
-            STDERR_FILENO,
-            b"the text is too long to be written: give a smaller one\n",
-        );
+        let _ = stderr.write_all(b"the text is too long to be written: give a smaller one\n");
         return false;
     }
-    let is_written = io::write_all(STDOUT_FILENO, &out[0..at]);
-    if !is_written {
-        os::fail(b"standard output was not written whole");
+    match stdout.write_all(&out[0..at]) {
+        Ok(()) => true,
+        Err(error) => {
+            fail(stderr, b"standard output was not written whole", &error);
+            false
+        }
     }
-    is_written
 }
 
 // The same to standard error, where nobody is left to be told.
-pub fn warn(out: &[u8], at: usize) -> bool {
+pub fn warn(stderr: &impl Print, out: &[u8], at: usize) -> bool {
     if at >= out.len() {
         return false;
     }
-    io::write_all(STDERR_FILENO, &out[0..at])
+    stderr.write_all(&out[0..at]).is_ok()
 }
 
-// The same with what errno says after it: why the last call failed.
-pub fn warn_errno(out: &[u8], at: usize) {
+// The same with what the system says after it: why a call failed.
+pub fn warn_errno(stderr: &impl Print, out: &[u8], at: usize, error: &Error) {
     if at < out.len() {
-        os::fail(&out[0..at]);
+        fail(stderr, &out[0..at], error);
     }
 }

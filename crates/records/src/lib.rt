@@ -1,4 +1,6 @@
 // Refusal 3: the first bad record, in the order of the image.
+#![tactic(auto)]
+
 pub mod first; // what a search finds
 
 ghost use Rattle.std.specs.Prelude.{◌≡◌, ◌+◌, ◌≤◌, ◌<◌, length, ltb, eqb, true, ◌&&◌};

@@ -1,4 +1,6 @@
 // What the rules of document 01 speak of: values, refusals and answers. The rules themselves are definitions, in specs/.
+#![tactic(auto)]
+
 ghost use Rattle.std.specs.Prelude.{◌≡◌};
 ghost use Rattle.rules.specs.Answer.{refusal_number, number_of, place_of, steps_of};
 

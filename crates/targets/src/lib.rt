@@ -1,4 +1,6 @@
 // Targets, as interpreter.rs has them: what a name, a field or an index names, read, set and assigned.
+#![tactic(auto)]
+
 ghost use Rattle.std.specs.Prelude.{◌≡◌, ◌≤◌, ◌<◌, length};
 ghost use Rattle.packed.specs.Layout.{size_of, node_at};
 ghost use Rattle.rules.specs.Store.{sought, item_at, as_object, as_items};

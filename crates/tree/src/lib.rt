@@ -1,4 +1,6 @@
 // Refusal 4: the lowest node at fault.
+#![tactic(auto)]
+
 ghost use Rattle.std.specs.Prelude.{◌≡◌, ◌≤◌, ◌<◌, [], ◌∷◌, length, get_or, true, not, ◌||◌, eqb};
 ghost use Rattle.packed.specs.Layout.{size_of, node_at};
 ghost use Rattle.tree.specs.Tree.{named as named_of, names_of, bodies as bodiesOf, node_names, heading as headingOf, marked, says, chain_by, goes as goesOf, parts as parts_of, names_well, is_named_well, node_right, lowest_fault, Added, Holds, Surveyed, GoodNodes};

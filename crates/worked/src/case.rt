@@ -13,7 +13,7 @@ const BYTES: usize = 16384;
 const ROOM: usize = 4160;
 
 // The words of a line between its image and its output.
-#[derive(Drop)]
+#[derive(Clone, Copy)]
 struct Case {
     budget: u64,
     // the lengths of what is lent
@@ -26,7 +26,7 @@ struct Case {
     steps: u64,
 }
 
-#[derive(Drop)]
+#[derive(Clone, Copy)]
 pub enum Fault {
     No,
     // its number, place, steps or length
@@ -36,7 +36,7 @@ pub enum Fault {
     Bytes,
 }
 
-#[derive(Drop)]
+#[derive(Clone, Copy)]
 pub enum Outcome {
     Answered(Answer, Fault),
     // the line is no case

@@ -1,19 +1,22 @@
 // A file of lines: one that begins with # is text, every other one a case.
-ghost use Rattle.std.specs.Prelude.{◌≡◌, length};
+ghost use Rattle.std.specs.Prelude.{◌≡◌, length, IfOk};
 ghost use Rattle.io.specs.Counts.{IsPrefixLen};
 
 use crate::case;
 use crate::case::{Fault, Outcome};
 use crate::word::end_of;
-use libc::STDERR_FILENO;
-use printing::{byte, bytes, decimal, send};
+use printing::{byte, bytes, decimal, send, warn_errno};
 use rules::Answer;
+use std::fs::File;
+use std::io::{Error, ErrorKind, Read};
 use std::num::wrapping_add_u64;
+use std::rt::Files;
+use std::{io, str};
 
 // More than the longest file.
 const TEXT: usize = 131072;
 
-#[derive(Drop)]
+#[derive(Clone, Copy)]
 pub struct Count {
     pub right: u64,
     pub wrong: u64,
@@ -65,17 +68,30 @@ fn outcome_told(page: &mut [u8], at: usize, outcome: Outcome) -> usize {
     fault_told(page, end, fault)
 }
 
-fn print_case(name: &[u8], number: u64, outcome: Outcome) {
+fn print_case(
+    stdout: &impl Print,
+    stderr: &impl Print,
+    name: &[u8],
+    number: u64,
+    outcome: Outcome,
+) {
     let mut page = [0u8; 256];
     let colon = bytes(&mut page, 0, name);
     let after_colon = byte(&mut page, colon, b':');
     let place = with_blank(&mut page, after_colon, number);
     let end = outcome_told(&mut page, place, outcome);
-    send(&page, end);
+    send(stdout, stderr, &page, end);
 }
 
 // A line's number makes what stands in the stores and the output differ from case to case.
-fn line_tried(name: &[u8], line: &[u8], number: u64, count: Count) -> Count {
+fn line_tried(
+    stdout: &impl Print,
+    stderr: &impl Print,
+    name: &[u8],
+    line: &[u8],
+    number: u64,
+    count: Count,
+) -> Count {
     if line.len() == 0 {
         return count;
     }
@@ -83,17 +99,23 @@ fn line_tried(name: &[u8], line: &[u8], number: u64, count: Count) -> Count {
         return count;
     }
     let outcome = case::tried(line, number);
-    print_case(name, number, outcome);
+    print_case(stdout, stderr, name, number, outcome);
     counted(count, outcome)
 }
 
-fn lines_tried(name: &[u8], text: &[u8], before: Count) -> Count {
+fn lines_tried(
+    stdout: &impl Print,
+    stderr: &impl Print,
+    name: &[u8],
+    text: &[u8],
+    before: Count,
+) -> Count {
     let mut count = before;
     let mut number: u64 = 1;
     let mut from = 0;
     while from < text.len() {
         let end = end_of(text, from, b'\n');
-        count = line_tried(name, &text[from..end], number, count);
+        count = line_tried(stdout, stderr, name, &text[from..end], number, count);
         if end == text.len() {
             return count;
         }
@@ -103,22 +125,54 @@ fn lines_tried(name: &[u8], text: &[u8], before: Count) -> Count {
     count
 }
 
-// How many bytes were read; none, and it is told, where the file cannot be opened.
-fn loaded(name: &[u8], text: &mut [u8]) -> usize
+// Files are opened by text.
+fn opened<R: Files>(rt: &R, name: &[u8]) -> io::Result<R::File> {
+    match str::from_utf8(name) {
+        Ok(name) => File::open(rt, name),
+        Err(_) => Err(Error::new(ErrorKind::InvalidFilename, "the name is not UTF-8")),
+    }
+}
+
+// Reads until there is no room or the file ends; how many bytes were read.
+fn read_full(file: &mut impl Read, text: &mut [u8]) -> io::Result<usize>
+    ensures { IfOk result (λ n. IsPrefixLen n text.new) }
+{
+    let mut done = 0;
+    while done < text.len() {
+        let n = file.read(&mut text[done..])?;
+        if n == 0 {
+            return Ok(done);
+        }
+        done += n;
+    }
+    Ok(done)
+}
+
+fn read(rt: &impl Files, name: &[u8], text: &mut [u8]) -> io::Result<usize>
+    ensures { IfOk result (λ n. IsPrefixLen n text.new) }
+{
+    let mut file = opened(rt, name)?;
+    read_full(&mut file, text)
+}
+
+// How many bytes were read; none, and it is told, where the file cannot be opened or read.
+fn loaded(rt: &impl Files, stderr: &impl Print, name: &[u8], text: &mut [u8]) -> usize
     ensures { IsPrefixLen result text.new }
 {
-    let fd = os::open_read(name);
-    if fd < 0 {
-        io::write_all(
-            STDERR_FILENO,
-            b"worked: run it in the folder that has its data; it cannot open ",
-        );
-        os::fail(name);
-        return 0;
+    match read(rt, name, text) {
+        Ok(length) => length,
+        Err(why) => {
+            let mut page = [0u8; 256];
+            let told = bytes(
+                &mut page,
+                0,
+                b"worked: run it in the folder that has its data; it cannot open ",
+            );
+            let end = bytes(&mut page, told, name);
+            warn_errno(stderr, &page, end, &why);
+            0
+        }
     }
-    let length = io::read_full(fd, text);
-    libc::close(fd);
-    length
 }
 
 // The promise of the length spares its user from counting it out.
@@ -129,11 +183,11 @@ fn room() -> [u8; TEXT]
 }
 
 // A file with nothing in it counts as wrong.
-pub fn tried(name: &[u8], count: Count) -> Count {
+pub fn tried(rt: &(impl Files + Print), stderr: &impl Print, name: &[u8], count: Count) -> Count {
     let mut text = room();
-    let length = loaded(name, &mut text);
+    let length = loaded(rt, stderr, name, &mut text);
     if length == 0 {
         return counted(count, Outcome::Unclear);
     }
-    lines_tried(name, &text[..length], count)
+    lines_tried(rt, stderr, name, &text[..length], count)
 }

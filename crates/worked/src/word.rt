@@ -2,7 +2,7 @@
 ghost use Rattle.std.specs.Prelude.{◌≤◌, length};
 ghost use Rattle.worked.specs.Between.{Between};
 
-#[derive(Drop)]
+#[derive(Clone, Copy)]
 pub enum Read {
     Is(u64),
     Bad,

@@ -9,62 +9,53 @@ use borrow.Author.Rules.{rules}
 use Rattle.binary.proofs.binary_of.Statement.{statement}
 use Rattle.binary.proofs.binary_of.Tie as tie
 
-enum-known-left : tie.Need-enum-known-left
-enum-known-left c = search rules
+enum_known-left : tie.Need-enum_known-left
+enum_known-left c = search rules
 
-float-pair-requires : tie.Need-float-pair-requires
-float-pair-requires c κs = search rules
+float_pair-requires : tie.Need-float_pair-requires
+float_pair-requires c κs = search rules
 
-same_length : tie.Need-same-length
-same_length c = search rules
+shape_of-bytes-in_default : tie.Need-shape_of-bytes-in_default
+shape_of-bytes-in_default c = search rules
+
+returns-in_default : tie.Need-returns-in_default
+returns-in_default c =
+    no_signeds _ _ _ c.args.left c.args.right (no_signed c.args.left c.in_default.in_default-own.keys2) c.float_pair.ensures
+
+enum_known-right : tie.Need-enum_known-right
+enum_known-right c = search rules
+
+returns-in_default-right : tie.Need-returns-in_default-right
+returns-in_default-right c =
+    signed_alone _ _ _ c.args.left c.args.right c.in-Signed.is (no_signed c.args.right c.in_default-right.in_default-right-own.keys2)
+
+node_at-node-requires : tie.Need-node_at-node-requires
+node_at-node-requires c κs = node_there c.requires.0
+
+binary_int-requires : tie.Need-binary_int-requires
+binary_int-requires c κs = search rules
+
+of_numbers-requires : tie.Need-of_numbers-requires
+of_numbers-requires c κs = search rules
 
 returns : tie.Need-returns
 returns c =
-    let call = c.before.before in
-    let other = call.before.before.before in
-    let start = other.before.before.before in
-    no_signeds _ _ _ start.args.left start.args.right (no_signed start.args.left other.match.keys2) call.float-pair.ensures
-
-enum-known-right : tie.Need-enum-known-right
-enum-known-right c = search rules
-
-returns-2 : tie.Need-returns-2
-returns-2 c =
-    let first = c.before.before in
-    let start = first.before.before.before.before in
-    signed_alone _ _ _ start.args.left start.args.right first.left.given.1 (no_signed start.args.right c.match2.keys2)
-
-node-at-requires : tie.Need-node-at-requires
-node-at-requires c κs = node_there c.before.before.before.before.before.before.before.before.requires.0
-
-binary-int-requires : tie.Need-binary-int-requires
-binary-int-requires c κs = search rules
-
-of-numbers-requires : tie.Need-of-numbers-requires
-of-numbers-requires c κs = search rules
-
-returns-3 : tie.Need-returns-3
-returns-3 c =
-    let read = c.before.before in
-    let second = read.before.before in
-    let first = second.before.before.before in
-    let start = first.before.before.before.before in
-    let x : SFits w64 first.left.given.0.0 = search rules in
-    let y : SFits w64 second.right.given.0.0 = search rules in
-    signeds _ _ _ start.args.left start.args.right _ read.node_at.ensures first.left.given.1 second.right.given.1
-    (rw (c.of-numbers.ensures, c.before.Binary-int.ensures, to_z-of_z x, to_z-of_z y))
+    let x : SFits w64 c.in-Signed.x = search rules in
+    let y : SFits w64 c.in-Signed-right.y = search rules in
+    signeds _ _ _ c.args.left c.args.right _ c.node_at-node.ensures c.in-Signed.is c.in-Signed-right.is
+    (rw (c.of_numbers.ensures, c.binary_int.ensures, to_z-of_z x, to_z-of_z y))
 
 pub binary_of_spec : {M : Type 1} → statement M
 binary_of_spec =
     tie.close
     (tie.spec
-    enum-known-left
-    float-pair-requires
-    same_length
-    returns
-    enum-known-right
-    returns-2
-    node-at-requires
-    binary-int-requires
-    of-numbers-requires
-    returns-3)
+    enum_known-left
+    float_pair-requires
+    shape_of-bytes-in_default
+    returns-in_default
+    enum_known-right
+    returns-in_default-right
+    node_at-node-requires
+    binary_int-requires
+    of_numbers-requires
+    returns)

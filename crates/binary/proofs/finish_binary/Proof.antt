@@ -6,49 +6,45 @@ use borrow.Author.Rules.{rules}
 use Rattle.binary.proofs.finish_binary.Statement.{statement}
 use Rattle.binary.proofs.finish_binary.Tie as tie
 
-enum-known-one : tie.Need-enum-known-one
-enum-known-one c = search rules
+enum_known-one : tie.Need-enum_known-one
+enum_known-one c = search rules
 
-returns : tie.Need-returns
-returns c = operand_out c.before.before.before.args.one c.match.keys2
+returns-in_default : tie.Need-returns-in_default
+returns-in_default c = operand_out c.args.one c.in_default.in_default-own.keys2
 
-binary-of-requires : tie.Need-binary-of-requires
-binary-of-requires c κs = search rules
+binary_of-requires : tie.Need-binary_of-requires
+binary_of-requires c κs = search rules
 
-enum-known-v : tie.Need-enum-known-v
-enum-known-v c = search rules
+enum_known-v : tie.Need-enum_known-v
+enum_known-v c = search rules
 
-enum-known-why : tie.Need-enum-known-why
-enum-known-why c = search rules
+enum_known-why : tie.Need-enum_known-why
+enum_known-why c = search rules
 
-same_length : tie.Need-same-length
-same_length c = search rules
+shape_of-bytes-in-Is : tie.Need-shape_of-bytes-in-Is
+shape_of-bytes-in-Is c = search rules
 
-returns-2 : tie.Need-returns-2
-returns-2 c =
-    let made = c.before.before.before.before.before in
-    let value = made.before.before.before.before in
-    operated value.one.given.1 made.binary-of.ensures (ap got_of c.before.v.given.1)
+returns-in-Is : tie.Need-returns-in-Is
+returns-in-Is c =
+    operated c.in-Done.is c.binary_of.ensures (ap got_of c.in-Is.is)
 
-same-length-2 : tie.Need-same-length-2
-same-length-2 c = search rules
+shape_of-bytes-in-Not : tie.Need-shape_of-bytes-in-Not
+shape_of-bytes-in-Not c = search rules
 
-returns-3 : tie.Need-returns-3
-returns-3 c =
-    let made = c.before.before.before.before.before in
-    let value = made.before.before.before.before in
-    operated value.one.given.1 made.binary-of.ensures (ap got_of c.before.why.given.1)
+returns-in-Not : tie.Need-returns-in-Not
+returns-in-Not c =
+    operated c.in-Done.is c.binary_of.ensures (ap got_of c.in-Not.is)
 
 pub finish_binary_spec : {M : Type 1} → statement M
 finish_binary_spec =
     tie.close
     (tie.spec
-    enum-known-one
-    returns
-    binary-of-requires
-    enum-known-v
-    enum-known-why
-    same_length
-    returns-2
-    same-length-2
-    returns-3)
+    enum_known-one
+    returns-in_default
+    binary_of-requires
+    enum_known-v
+    enum_known-why
+    shape_of-bytes-in-Is
+    returns-in-Is
+    shape_of-bytes-in-Not
+    returns-in-Not)

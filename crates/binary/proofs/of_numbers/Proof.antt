@@ -7,49 +7,49 @@ use borrow.Author.Rules.{rules}
 use Rattle.binary.proofs.of_numbers.Statement.{statement}
 use Rattle.binary.proofs.of_numbers.Tie as tie
 
-enum-known-result : tie.Need-enum-known-result
-enum-known-result c = search rules
+enum_known-res : tie.Need-enum_known-res
+enum_known-res c = search rules
 
-enum-known-result-2 : tie.Need-enum-known-result-2
-enum-known-result-2 c = search rules
+enum_known-res-in-Float-1 : tie.Need-enum_known-res-in-Float-1
+enum_known-res-in-Float-1 c = search rules
 
-enum-known-result-3 : tie.Need-enum-known-result-3
-enum-known-result-3 c = search rules
+enum_known-res-in-Bool-1 : tie.Need-enum_known-res-in-Bool-1
+enum_known-res-in-Bool-1 c = search rules
 
-enum-known-result-4 : tie.Need-enum-known-result-4
-enum-known-result-4 c = search rules
+enum_known-res-in-Refused-1 : tie.Need-enum_known-res-in-Refused-1
+enum_known-res-in-Refused-1 c = search rules
 
-arith-place-requires : tie.Need-arith-place-requires
-arith-place-requires c κs = search rules
+arith_place-requires : tie.Need-arith_place-requires
+arith_place-requires c κs = search rules
 
-returns : tie.Need-returns
-returns c =
-    let f : SFits w64 c.before.result.given.0.0 = search rules in
-    rw (c.before.result.given.1, to_z-of_z f)
+returns-in-Signed : tie.Need-returns-in-Signed
+returns-in-Signed c =
+    let f : SFits w64 c.in-Signed.z = search rules in
+    rw (c.in-Signed.is, to_z-of_z f)
 
-returns-2 : tie.Need-returns-2
-returns-2 c = rw c.before.result2.given.1
+returns-in-Float : tie.Need-returns-in-Float
+returns-in-Float c = rw c.in-Float.is
 
-returns-3 : tie.Need-returns-3
-returns-3 c = rw c.before.result3.given.1
+returns-in-Bool : tie.Need-returns-in-Bool
+returns-in-Bool c = rw c.in-Bool.is
 
-returns-4 : tie.Need-returns-4
-returns-4 c = rw (c.before.before.result4.given.1, c.arith-place.ensures)
+returns-in-Refused : tie.Need-returns-in-Refused
+returns-in-Refused c = rw (c.in-Refused.is, c.arith_place.ensures)
 
-returns-5 : tie.Need-returns-5
-returns-5 c = no_number c.before.args.n c.before.args.right c.before.args.res c.match.keys5
+returns-in_default : tie.Need-returns-in_default
+returns-in_default c = no_number c.args.n c.args.right c.args.res c.in_default.in_default-own.keys5
 
 pub of_numbers_spec : {M : Type 1} → statement M
 of_numbers_spec =
     tie.close
     (tie.spec
-    enum-known-result
-    enum-known-result-2
-    enum-known-result-3
-    enum-known-result-4
-    arith-place-requires
-    returns
-    returns-2
-    returns-3
-    returns-4
-    returns-5)
+    enum_known-res
+    enum_known-res-in-Float-1
+    enum_known-res-in-Bool-1
+    enum_known-res-in-Refused-1
+    arith_place-requires
+    returns-in-Signed
+    returns-in-Float
+    returns-in-Bool
+    returns-in-Refused
+    returns-in_default)

@@ -6,63 +6,48 @@ use borrow.Author.Rules.{rules}
 use Rattle.binary.proofs.text_pair.Statement.{statement}
 use Rattle.binary.proofs.text_pair.Tie as tie
 
-enum-known-left : tie.Need-enum-known-left
-enum-known-left c = search rules
+enum_known-left : tie.Need-enum_known-left
+enum_known-left c = search rules
 
-returns : tie.Need-returns
-returns c =
-    let start = c.before.before.before in
-    no_texts _ _ _ start.args.left start.args.right (no_text start.args.left c.match.keys2)
+returns-in_default : tie.Need-returns-in_default
+returns-in_default c =
+    no_texts _ _ _ c.args.left c.args.right (no_text c.args.left c.in_default.in_default-own.keys2)
 
-enum-known-right : tie.Need-enum-known-right
-enum-known-right c = search rules
+enum_known-right : tie.Need-enum_known-right
+enum_known-right c = search rules
 
-returns-2 : tie.Need-returns-2
-returns-2 c =
-    let first = c.before.before in
-    let start = first.before.before.before.before in
-    text_alone _ _ _ start.args.left start.args.right first.left.given.1 (no_text start.args.right c.match2.keys2)
+returns-in_default-right : tie.Need-returns-in_default-right
+returns-in_default-right c =
+    text_alone _ _ _ c.args.left c.args.right c.in-Text.is (no_text c.args.right c.in_default-right.in_default-right-own.keys2)
 
-node-at-requires : tie.Need-node-at-requires
-node-at-requires c κs = node_there c.before.before.before.before.before.before.before.before.requires.0
+node_at-node-requires : tie.Need-node_at-node-requires
+node_at-node-requires c κs = node_there c.requires.0
 
-returns-3 : tie.Need-returns-3
-returns-3 c =
-    let read = c.before.before in
-    let second = read.before.before in
-    let first = second.before.before.before in
-    let start = first.before.before.before.before in
-    no_join _ _ _ start.args.left start.args.right _ read.node_at.ensures first.left.given.1 second.right.given.1 c.if1.true
+returns-then-node-ne0 : tie.Need-returns-then-node-ne0
+returns-then-node-ne0 c =
+    no_join _ _ _ c.args.left c.args.right _ c.node_at-node.ensures c.in-Text.is c.in-Text-right.is c.if-node-ne0.true
 
 join-requires : tie.Need-join-requires
 join-requires c κs =
-    let read = c.before.before.before.before in
-    let start = read.before.before.before.before.before.before.before.before.before in
-    ((node_there start.requires.0).2, start.requires.1, start.requires.2, start.requires.3)
+    ((node_there c.requires.0).2, c.requires.1, c.requires.2, c.requires.3)
 
-same_length : tie.Need-same-length
-same_length c = search rules
+shape_of-bytes : tie.Need-shape_of-bytes
+shape_of-bytes c = search rules
 
-returns-4 : tie.Need-returns-4
-returns-4 c =
-    let call = c.before.before in
-    let plus = call.before.before.before in
-    let read = plus.before.before in
-    let second = read.before.before in
-    let first = second.before.before.before in
-    let start = first.before.before.before.before in
-    joins _ _ _ start.args.left start.args.right _ read.node_at.ensures first.left.given.1 second.right.given.1 plus.if1.false call.join.ensures
+returns : tie.Need-returns
+returns c =
+    joins _ _ _ c.args.left c.args.right _ c.node_at-node.ensures c.in-Text.is c.in-Text-right.is c.if-node-ne0.false c.join.ensures
 
 pub text_pair_spec : {M : Type 1} → statement M
 text_pair_spec =
     tie.close
     (tie.spec
-    enum-known-left
-    returns
-    enum-known-right
-    returns-2
-    node-at-requires
-    returns-3
+    enum_known-left
+    returns-in_default
+    enum_known-right
+    returns-in_default-right
+    node_at-node-requires
+    returns-then-node-ne0
     join-requires
-    same_length
-    returns-4)
+    shape_of-bytes
+    returns)

@@ -4,43 +4,43 @@ use borrow.Author.Rules.{rules}
 use Rattle.building.proofs.judge_component.Statement.{statement}
 use Rattle.building.proofs.judge_component.Tie as tie
 
-enum_told : tie.Need-enum-told
-enum_told c = search rules
+enum_told-1 : tie.Need-enum_told-1
+enum_told-1 c = search rules
 
-enum-told-2 : tie.Need-enum-told-2
-enum-told-2 c = search rules
+enum_told-in-Bool : tie.Need-enum_told-in-Bool
+enum_told-in-Bool c = search rules
 
-enum-told-3 : tie.Need-enum-told-3
-enum-told-3 c = search rules
+enum_told-in-Text : tie.Need-enum_told-in-Text
+enum_told-in-Text c = search rules
 
-enum-told-4 : tie.Need-enum-told-4
-enum-told-4 c = search rules
+enum_told-in-Float : tie.Need-enum_told-in-Float
+enum_told-in-Float c = search rules
 
-returns : tie.Need-returns
-returns c = record { is = λ image h σ. rw c.enum_told.given.1 }
+returns-in-Signed : tie.Need-returns-in-Signed
+returns-in-Signed c = record { is = λ image h σ. rw c.in-Signed.is }
 
-returns-2 : tie.Need-returns-2
-returns-2 c = record { is = λ image h σ. rw c.enum-told2.given.1 }
+returns-in-Bool : tie.Need-returns-in-Bool
+returns-in-Bool c = record { is = λ image h σ. rw c.in-Bool.is }
 
-returns-3 : tie.Need-returns-3
-returns-3 c = record { is = λ image h σ. rw c.enum-told3.given.1 }
+returns-in-Text : tie.Need-returns-in-Text
+returns-in-Text c = record { is = λ image h σ. rw c.in-Text.is }
 
-returns-4 : tie.Need-returns-4
-returns-4 c = record { is = λ image h σ. rw c.enum-told4.given.1 }
+returns-in-Float : tie.Need-returns-in-Float
+returns-in-Float c = record { is = λ image h σ. rw c.in-Float.is }
 
-returns-5 : tie.Need-returns-5
-returns-5 c = record { is = λ image h σ. judged_other image h σ c.before.args.v c.match.keys5 }
+returns-in_default : tie.Need-returns-in_default
+returns-in_default c = record { is = λ image h σ. judged_other image h σ c.args.v c.in_default.in_default-own.keys5 }
 
 pub judge_component_spec : {M : Type 1} → statement M
 judge_component_spec =
     tie.close
     (tie.spec
-    enum_told
-    enum-told-2
-    enum-told-3
-    enum-told-4
-    returns
-    returns-2
-    returns-3
-    returns-4
-    returns-5)
+    enum_told-1
+    enum_told-in-Bool
+    enum_told-in-Text
+    enum_told-in-Float
+    returns-in-Signed
+    returns-in-Bool
+    returns-in-Text
+    returns-in-Float
+    returns-in_default)

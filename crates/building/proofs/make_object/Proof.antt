@@ -4,68 +4,66 @@ use borrow.Author.Rules.{rules}
 use Rattle.building.proofs.make_object.Statement.{statement}
 use Rattle.building.proofs.make_object.Tie as tie
 
-element-copy-out-head : tie.Need-element-copy-out-head
-element-copy-out-head c = search rules
+bounds-run-5 : tie.Need-bounds-run-5
+bounds-run-5 c = search rules
+
+returns-then-head-ge1024 : tie.Need-returns-then-head-ge1024
+returns-then-head-ge1024 c =
+    let a = c.args in
+    object_full a.image.now a.h a.n a.from a.run.now a.words.now c.requires.1 c.if-head-ge1024.true
+
+put_head-requires : tie.Need-put_head-requires
+put_head-requires c κs = search rules
+
+bounds-run-4 : tie.Need-bounds-run-4
+bounds-run-4 c = search rules
+
+put_entries-end-requires : tie.Need-put_entries-end-requires
+put_entries-end-requires c κs =
+    (c.requires.0, c.if-head-ge1024.false, c.requires.1.pending, search rules)
+
+shape_of-words-then-end-gt1024 : tie.Need-shape_of-words-then-end-gt1024
+shape_of-words-then-end-gt1024 c =
+    let long = c.put_entries-end.ensures.long in
+    search rules
+
+returns-then-end-gt1024 : tie.Need-returns-then-end-gt1024
+returns-then-end-gt1024 c =
+    let put = rw c.put_head.ensures at c.put_entries-end.ensures in
+    object_over _ _ _ _ _ _ c.requires.1 c.if-head-ge1024.false _ _ put c.if-end-gt1024.true
+
+drop_pending-requires : tie.Need-drop_pending-requires
+drop_pending-requires c κs = search rules
+
+bounds-run-5-2 : tie.Need-bounds-run-5-2
+bounds-run-5-2 c = search rules
+
+overflow_cast-result : tie.Need-overflow_cast-result
+overflow_cast-result c = search rules
+
+shape_of-words : tie.Need-shape_of-words
+shape_of-words c =
+    let long = c.put_entries-end.ensures.long in
+    search rules
 
 returns : tie.Need-returns
 returns c =
-    let start = c.before.before.before.before in
-    let a = start.args in
-    object_full a.image.now a.h a.n a.from a.run.now a.words.now start.requires.1 c.if1.true
-
-put-head-requires : tie.Need-put-head-requires
-put-head-requires c κs = search rules
-
-element-copy-out-to : tie.Need-element-copy-out-to
-element-copy-out-to c = search rules
-
-put-entries-requires : tie.Need-put-entries-requires
-put-entries-requires c κs =
-    let start = c.before.before.before.before.before.before.before.before.before.before in
-    (start.requires.0, c.before.before.before.before.before.before.if1.false, start.requires.1.pending, search rules)
-
-same_length : tie.Need-same-length
-same_length c =
-    let long = c.before.before.before.put_entries.ensures.long in
-    search rules
-
-returns-2 : tie.Need-returns-2
-returns-2 c =
-    let put = rw c.before.before.before.before.before.before.before.before.put-head.ensures at c.before.before.before.put_entries.ensures in
-    object_over _ _ _ _ _ _ c.before.before.before.before.before.before.before.before.before.before.before.before.before.before.requires.1 c.before.before.before.before.before.before.before.before.before.before.if1.false _ _ put c.if2.true
-
-drop-pending-requires : tie.Need-drop-pending-requires
-drop-pending-requires c κs = search rules
-
-element-write-run : tie.Need-element-write-run
-element-write-run c = search rules
-
-cast-t27 : tie.Need-overflow-cast-t27
-cast-t27 c = search rules
-
-same-length-2 : tie.Need-same-length-2
-same-length-2 c =
-    let long = c.before.before.before.before.before.put_entries.ensures.long in
-    search rules
-
-returns-3 : tie.Need-returns-3
-returns-3 c =
-    let put = rw c.before.before.before.before.before.before.before.before.before.before.put-head.ensures at c.before.before.before.before.before.put_entries.ensures in
-    object_made_lem _ _ _ _ _ _ c.before.before.before.before.before.before.before.before.before.before.before.before.before.before.before.before.requires.1 c.before.before.before.before.before.before.before.before.before.before.before.before.if1.false _ _ put _ c.drop-pending.ensures c.before.before.if2.false
+    let put = rw c.put_head.ensures at c.put_entries-end.ensures in
+    object_made_lem _ _ _ _ _ _ c.requires.1 c.if-head-ge1024.false _ _ put _ c.drop_pending.ensures c.if-end-gt1024.false
 
 pub make_object_spec : {M : Type 1} → statement M
 make_object_spec =
     tie.close
     (tie.spec
-    element-copy-out-head
-    returns
-    put-head-requires
-    element-copy-out-to
-    put-entries-requires
-    same_length
-    returns-2
-    drop-pending-requires
-    element-write-run
-    cast-t27
-    same-length-2
-    returns-3)
+    bounds-run-5
+    returns-then-head-ge1024
+    put_head-requires
+    bounds-run-4
+    put_entries-end-requires
+    shape_of-words-then-end-gt1024
+    returns-then-end-gt1024
+    drop_pending-requires
+    bounds-run-5-2
+    overflow_cast-result
+    shape_of-words
+    returns)

@@ -8,84 +8,81 @@ use Rattle.building.proofs.make_template.Statement.{statement}
 use Rattle.building.proofs.make_template.Tie as tie
 
 -- where the text ends
-ends : (c : tie.After-put) → (text_of c.before.before.before.before.before.before.before.before.before.before.before.args.run.now ≤ c.put.given.0.0) × (c.put.given.0.0 ≤ 16384)
+ends : (c : tie.In-End) → (text_of c.args.run.now ≤ c.in-End.end) × (c.in-End.end ≤ 16384)
 ends c =
-    let start = c.before.before.before.before.before.before.before.before.before.before.before in
-    let put = rw c.put.given.1 at c.before.before.before.before.put-components.ensures in
-    let size = template_size _ _ _ _ _ _ _ _ start.requires.1 start.requires.2 _ put in
+    let put = rw c.in-End.is at c.put_components-put.ensures in
+    let size = template_size _ _ _ _ _ _ _ _ c.requires.1 c.requires.2 _ put in
     (omega (arith, size), omega (arith, size))
 
-element-copy-out-made : tie.Need-element-copy-out-made
-element-copy-out-made c = search rules
+bounds-run-6 : tie.Need-bounds-run-6
+bounds-run-6 c = search rules
 
-element-copy-out-to : tie.Need-element-copy-out-to
-element-copy-out-to c = search rules
+bounds-run-4 : tie.Need-bounds-run-4
+bounds-run-4 c = search rules
 
-put-components-requires : tie.Need-put-components-requires
-put-components-requires c κs = search rules
+put_components-put-requires : tie.Need-put_components-put-requires
+put_components-put-requires c κs = search rules
 
-enum-known-put : tie.Need-enum-known-put
-enum-known-put c = search rules
+enum_known-put : tie.Need-enum_known-put
+enum_known-put c = search rules
 
-enum_told : tie.Need-enum-told
-enum_told c = search rules
+enum_told-1 : tie.Need-enum_told-1
+enum_told-1 c = search rules
 
-same_length : tie.Need-same-length
-same_length c = search rules
+shape_of-bytes-in_default : tie.Need-shape_of-bytes-in_default
+shape_of-bytes-in_default c = search rules
+
+returns-in_default : tie.Need-returns-in_default
+returns-in_default c =
+    let put = rw c.in_default.is at c.put_components-put.ensures in
+    template_refused _ _ _ _ _ _ _ _ c.requires.1 c.requires.2 put
+
+drop_pending-requires : tie.Need-drop_pending-requires
+drop_pending-requires c κs = search rules
+
+bounds-run-6-2 : tie.Need-bounds-run-6-2
+bounds-run-6-2 c = search rules
+
+overflow_cast-result : tie.Need-overflow_cast-result
+overflow_cast-result c = search rules
+
+overflow_cast-result-2 : tie.Need-overflow_cast-result-2
+overflow_cast-result-2 c = search rules
+
+overflow_add-result : tie.Need-overflow_add-result
+overflow_add-result c = search rules
+
+overflow_sub-result : tie.Need-overflow_sub-result
+overflow_sub-result c = omega (arith, ends c.before.before.before.before)
+
+overflow_cast-result-3 : tie.Need-overflow_cast-result-3
+overflow_cast-result-3 c = omega (arith, ends c.before.before.before.before)
+
+shape_of-bytes : tie.Need-shape_of-bytes
+shape_of-bytes c = search rules
 
 returns : tie.Need-returns
 returns c =
-    let start = c.before.before.before.before.before.before.before.before.before.before.before in
-    let put = rw c.enum_told.given.1 at c.before.before.before.before.put-components.ensures in
-    template_refused _ _ _ _ _ _ _ _ start.requires.1 start.requires.2 put
-
-drop-pending-requires : tie.Need-drop-pending-requires
-drop-pending-requires c κs = search rules
-
-element-write-run : tie.Need-element-write-run
-element-write-run c = search rules
-
-cast-t25 : tie.Need-overflow-cast-t25
-cast-t25 c = search rules
-
-cast-t26 : tie.Need-overflow-cast-t26
-cast-t26 c = search rules
-
-add-t27 : tie.Need-overflow-add-t27
-add-t27 c = search rules
-
-sub-t17 : tie.Need-overflow-sub-t17
-sub-t17 c = omega (arith, ends c.before.before.before.before)
-
-cast-t28 : tie.Need-overflow-cast-t28
-cast-t28 c = omega (arith, ends c.before.before.before.before)
-
-same-length-2 : tie.Need-same-length-2
-same-length-2 c = search rules
-
-returns-2 : tie.Need-returns-2
-returns-2 c =
-    let start = c.before.before.before.before.before.before.before.before.before.before.before.before.before.before.before in
-    let put = rw c.before.before.before.before.put.given.1 at c.before.before.before.before.before.before.before.before.put-components.ensures in
-    template_made_lem _ _ _ _ _ _ _ _ start.requires.1 start.requires.2 _ put _ c.before.drop-pending.ensures
+    let put = rw c.in-End.is at c.put_components-put.ensures in
+    template_made_lem _ _ _ _ _ _ _ _ c.requires.1 c.requires.2 _ put _ c.drop_pending.ensures
 
 pub make_template_spec : {M : Type 1} → statement M
 make_template_spec =
     tie.close
     (tie.spec
-    element-copy-out-made
-    element-copy-out-to
-    put-components-requires
-    enum-known-put
-    enum_told
-    same_length
-    returns
-    drop-pending-requires
-    element-write-run
-    cast-t25
-    cast-t26
-    add-t27
-    sub-t17
-    cast-t28
-    same-length-2
-    returns-2)
+    bounds-run-6
+    bounds-run-4
+    put_components-put-requires
+    enum_known-put
+    enum_told-1
+    shape_of-bytes-in_default
+    returns-in_default
+    drop_pending-requires
+    bounds-run-6-2
+    overflow_cast-result
+    overflow_cast-result-2
+    overflow_add-result
+    overflow_sub-result
+    overflow_cast-result-3
+    shape_of-bytes
+    returns)

@@ -5,41 +5,41 @@ use borrow.Author.Rules.{rules}
 use Rattle.building.proofs.make_vec.Statement.{statement}
 use Rattle.building.proofs.make_vec.Tie as tie
 
-element-copy-out-head : tie.Need-element-copy-out-head
-element-copy-out-head c = search rules
+bounds-run-5 : tie.Need-bounds-run-5
+bounds-run-5 c = search rules
 
-cast-head : tie.Need-overflow-cast-head
-cast-head c = search rules
+overflow_cast-head : tie.Need-overflow_cast-head
+overflow_cast-head c = search rules
 
-take-items-requires : tie.Need-take-items-requires
-take-items-requires c κs = search rules
+take_items-requires : tie.Need-take_items-requires
+take_items-requires c κs = search rules
 
-same_length : tie.Need-same-length
-same_length c = search rules
+shape_of-words-then-take_items : tie.Need-shape_of-words-then-take_items
+shape_of-words-then-take_items c = search rules
+
+returns-then-take_items : tie.Need-returns-then-take_items
+returns-then-take_items c =
+    let args = c.args in
+    let taken = c.take_items.ensures in
+    items_made_lem Vec args.n args.from _ _ _ _ (rw c.if-take_items.true at taken)
+
+shape_of-words : tie.Need-shape_of-words
+shape_of-words c = search rules
 
 returns : tie.Need-returns
 returns c =
-    let args = c.before.before.before.before.before.before.before.before.args in
-    let taken = c.before.before.before.take-items.ensures in
-    items_made_lem Vec args.n args.from _ _ _ _ (rw c.if1.true at taken)
-
-same-length-2 : tie.Need-same-length-2
-same-length-2 c = search rules
-
-returns-2 : tie.Need-returns-2
-returns-2 c =
-    let args = c.before.before.before.before.before.before.before.before.args in
-    let refused = c.before.before.before.take-items.ensures in
-    items_refused Vec args.n args.from _ _ _ _ (rw c.if1.false at refused)
+    let args = c.args in
+    let refused = c.take_items.ensures in
+    items_refused Vec args.n args.from _ _ _ _ (rw c.if-take_items.false at refused)
 
 pub make_vec_spec : {M : Type 1} → statement M
 make_vec_spec =
     tie.close
     (tie.spec
-    element-copy-out-head
-    cast-head
-    take-items-requires
-    same_length
-    returns
-    same-length-2
-    returns-2)
+    bounds-run-5
+    overflow_cast-head
+    take_items-requires
+    shape_of-words-then-take_items
+    returns-then-take_items
+    shape_of-words
+    returns)

@@ -7,110 +7,104 @@ use borrow.Author.Rules.{rules}
 use Rattle.building.proofs.put_entries.Statement.{statement}
 use Rattle.building.proofs.put_entries.Tie as tie
 
-abbrev invariant-loop : tie.invariant-loop
-invariant-loop image h words₀ n head from to end₀ at₀ i₀ words end at i = Entering image h n head from to words₀ words end at i
+abbrev invariant-loop-i : tie.invariant-loop-i
+invariant-loop-i image h words₀ n head from to end₀ at₀ i₀ words end at i = Entering image h n head from to words₀ words end at i
 
-abbrev decreases-loop : tie.decreases-loop
-decreases-loop image h words₀ n head from to end₀ at₀ i₀ words end at i = to - at
+abbrev decreases-loop-i : tie.decreases-loop-i
+decreases-loop-i image h words₀ n head from to end₀ at₀ i₀ words end at i = to - at
 
-add-end : tie.Need-overflow-add-end invariant-loop decreases-loop
-add-end c = search rules
+overflow_add-end : tie.Need-overflow_add-end invariant-loop-i decreases-loop-i
+overflow_add-end c = search rules
 
-node-at-requires : tie.Need-node-at-requires invariant-loop decreases-loop
-node-at-requires c κs =
-    let start = c.before.before in
-    (start.requires.0.first, start.requires.0.last, size_right _ _ start.requires.0.loaded)
+node_at-i-requires : tie.Need-node_at-i-requires invariant-loop-i decreases-loop-i
+node_at-i-requires c κs =
+    (c.requires.0.first, c.requires.0.last, size_right _ _ c.requires.0.loaded)
 
-loop-holds : tie.Need-loop-init invariant-loop decreases-loop
-loop-holds c = rw c.node_at.ensures (entering_begins _ _ _ _ _ _ _ c.before.before.before.requires.1)
+loop-i-init : tie.Need-loop-i-init invariant-loop-i decreases-loop-i
+loop-i-init c = rw c.node_at-i.ensures (entering_begins _ _ _ _ _ _ _ c.requires.1)
 
-same_length : tie.Need-same-length invariant-loop decreases-loop
-same_length c =
-    let long = c.before.before.loop.invariant.long in
+shape_of-words-then-to-at : tie.Need-shape_of-words-then-to-at invariant-loop-i decreases-loop-i
+shape_of-words-then-to-at c =
+    let long = c.loop-i.invariant.long in
     search rules
 
-returns : tie.Need-returns invariant-loop decreases-loop
-returns c = items_end _ _ _ _ _ _ _ _ _ _ _ c.before.before.loop.invariant c.if1.true
+returns-then-to-at : tie.Need-returns-then-to-at invariant-loop-i decreases-loop-i
+returns-then-to-at c = items_end _ _ _ _ _ _ _ _ _ _ _ c.loop-i.invariant c.if-to-at.true
 
-cast-node-at : tie.Need-overflow-cast-node-at invariant-loop decreases-loop
-cast-node-at c =
-    let there = entry_there _ _ _ c.before.before.before.before.before.before.requires.0 _ (c.before.before.loop.invariant.along c.before.loop-test.true) in
+overflow_cast-i : tie.Need-overflow_cast-i invariant-loop-i decreases-loop-i
+overflow_cast-i c =
+    let there = entry_there _ _ _ c.requires.0 _ (c.loop-i.invariant.along c.loop-i-test.true) in
     search rules
 
-node-at-requires-2 : tie.Need-node-at-requires-2 invariant-loop decreases-loop
-node-at-requires-2 c κs =
-    let start = c.before.before.before.before.before.before in
-    let there = entry_there _ _ _ start.requires.0 _ (c.before.before.loop.invariant.along c.before.loop-test.true) in
-    (there.0, there.1, size_right _ _ start.requires.0.loaded)
+node_at-entry-requires : tie.Need-node_at-entry-requires invariant-loop-i decreases-loop-i
+node_at-entry-requires c κs =
+    let there = entry_there _ _ _ c.requires.0 _ (c.loop-i.invariant.along c.loop-i-test.true) in
+    (there.0, there.1, size_right _ _ c.requires.0.loaded)
 
-key-of-requires : tie.Need-key-of-requires invariant-loop decreases-loop
-key-of-requires c κs =
-    let start = c.before.before.before.before.before.before.before.before in
-    let there = entry_there _ _ _ start.requires.0 _ (c.before.before.before.before.loop.invariant.along c.before.before.before.loop-test.true) in
-    rw c.before.node-at2.ensures (there.2, size_right _ _ start.requires.0.loaded)
+key_of-requires : tie.Need-key_of-requires invariant-loop-i decreases-loop-i
+key_of-requires c κs =
+    let there = entry_there _ _ _ c.requires.0 _ (c.loop-i.invariant.along c.loop-i-test.true) in
+    rw c.node_at-entry.ensures (there.2, size_right _ _ c.requires.0.loaded)
 
-put-entry-requires : tie.Need-put-entry-requires invariant-loop decreases-loop
-put-entry-requires c κs =
-    let start = c.before.before.before.before.before.before.before.before.before in
-    let e = c.before.before.before.before.before.loop.invariant in
-    (size_right _ _ start.requires.0.loaded, omega (arith, e.ends), e.most, omega (arith, c.before.before.before.if1.false, start.requires.2), omega (arith, e.long, start.requires.3))
+put_entry-end-requires : tie.Need-put_entry-end-requires invariant-loop-i decreases-loop-i
+put_entry-end-requires c κs =
+    let e = c.loop-i.invariant in
+    (size_right _ _ c.requires.0.loaded, omega (arith, e.ends), e.most, omega (arith, c.if-to-at.false, c.requires.2), omega (arith, e.long, c.requires.3))
 
-same-length-2 : tie.Need-same-length-2 invariant-loop decreases-loop
-same-length-2 c =
-    let before = c.before.before.before.before.before.before.before.before.before.loop.invariant.long in
-    let long = c.before.before.before.put-entry.ensures.long in
+shape_of-words-then-end-gt1024 : tie.Need-shape_of-words-then-end-gt1024 invariant-loop-i decreases-loop-i
+shape_of-words-then-end-gt1024 c =
+    let before = c.loop-i.invariant.long in
+    let long = c.put_entry-end.ensures.long in
     search rules
 
-returns-2 : tie.Need-returns-2 invariant-loop decreases-loop
-returns-2 c =
-    let start = c.before.before.before.before.before.before.before.before.before.before.before.before.before in
-    let put = rw (c.before.before.before.before.key_of.ensures, c.before.before.before.before.before.before.node-at2.ensures) at c.before.before.before.put-entry.ensures in
-    entering_full _ _ _ _ _ _ _ _ _ _ _ _ _ start.requires.0 c.before.before.before.before.before.before.before.before.before.loop.invariant c.before.before.before.before.before.before.before.before.loop-test.true c.before.before.before.before.before.before.before.if1.false start.requires.2 put c.if2.true
+returns-then-end-gt1024 : tie.Need-returns-then-end-gt1024 invariant-loop-i decreases-loop-i
+returns-then-end-gt1024 c =
+    let put = rw (c.key_of.ensures, c.node_at-entry.ensures) at c.put_entry-end.ensures in
+    entering_full _ _ _ _ _ _ _ _ _ _ _ _ _ c.requires.0 c.loop-i.invariant c.loop-i-test.true c.if-to-at.false c.requires.2 put c.if-end-gt1024.true
 
-add_at : tie.Need-overflow-add-at invariant-loop decreases-loop
-add_at c = search rules
+overflow_add-at : tie.Need-overflow_add-at invariant-loop-i decreases-loop-i
+overflow_add-at c = search rules
 
-onward-requires : tie.Need-onward-requires invariant-loop decreases-loop
-onward-requires c κs = search rules
+onward-i-requires : tie.Need-onward-i-requires invariant-loop-i decreases-loop-i
+onward-i-requires c κs = search rules
 
-loop-less : tie.Need-loop-smaller invariant-loop decreases-loop
-loop-less c = search rules
+loop-i-smaller : tie.Need-loop-i-smaller invariant-loop-i decreases-loop-i
+loop-i-smaller c = search rules
 
-loop-again : tie.Need-loop-preserved invariant-loop decreases-loop
-loop-again c =
-    let start = c.before.before.before.before.before.before.before.before.before.before.before.before.before.before in
-    let put = rw (c.before.before.before.before.before.key_of.ensures, c.before.before.before.before.before.before.before.node-at2.ensures) at c.before.before.before.before.put-entry.ensures in
-    rw (c.onward.ensures, c.before.before.before.before.before.before.before.node-at2.ensures)
-    (entering_more _ _ _ _ _ _ _ _ _ _ _ _ _ start.requires.0 c.before.before.before.before.before.before.before.before.before.before.loop.invariant c.before.before.before.before.before.before.before.before.before.loop-test.true c.before.before.before.before.before.before.before.before.if1.false start.requires.2 put c.before.if2.false)
+loop-i-preserved : tie.Need-loop-i-preserved invariant-loop-i decreases-loop-i
+loop-i-preserved c =
+    let put = rw (c.key_of.ensures, c.node_at-entry.ensures) at c.put_entry-end.ensures in
+    rw (c.onward-i.ensures, c.node_at-entry.ensures)
+    (entering_more _ _ _ _ _ _ _ _ _ _ _ _ _ c.requires.0 c.loop-i.invariant c.loop-i-test.true c.if-to-at.false c.requires.2 put c.if-end-gt1024.false)
 
-same-length-3 : tie.Need-same-length-3 invariant-loop decreases-loop
-same-length-3 c =
-    let long = c.before.loop.invariant.long in
+shape_of-words : tie.Need-shape_of-words invariant-loop-i decreases-loop-i
+shape_of-words c =
+    let long = c.loop-i.invariant.long in
     search rules
 
-returns-3 : tie.Need-returns-3 invariant-loop decreases-loop
-returns-3 c = chain_ends _ _ _ _ _ _ _ _ _ _ _ c.before.loop.invariant c.loop-test.false
+returns : tie.Need-returns invariant-loop-i decreases-loop-i
+returns c = chain_ends _ _ _ _ _ _ _ _ _ _ _ c.loop-i.invariant c.loop-i-test.false
 
 pub put_entries_spec : {M : Type 1} → statement M
 put_entries_spec =
     tie.close
     (tie.spec
-    invariant-loop
-    decreases-loop
-    add-end
-    node-at-requires
-    loop-holds
-    same_length
-    returns
-    cast-node-at
-    node-at-requires-2
-    key-of-requires
-    put-entry-requires
-    same-length-2
-    returns-2
-    add_at
-    onward-requires
-    loop-less
-    loop-again
-    same-length-3
-    returns-3)
+    invariant-loop-i
+    decreases-loop-i
+    overflow_add-end
+    node_at-i-requires
+    loop-i-init
+    shape_of-words-then-to-at
+    returns-then-to-at
+    overflow_cast-i
+    node_at-entry-requires
+    key_of-requires
+    put_entry-end-requires
+    shape_of-words-then-end-gt1024
+    returns-then-end-gt1024
+    overflow_add-at
+    onward-i-requires
+    loop-i-smaller
+    loop-i-preserved
+    shape_of-words
+    returns)

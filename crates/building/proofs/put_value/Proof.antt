@@ -9,65 +9,64 @@ use borrow.Author.Rules.{rules}
 use Rattle.building.proofs.put_value.Statement.{statement}
 use Rattle.building.proofs.put_value.Tie as tie
 
-enum-known-v : tie.Need-enum-known-v
-enum-known-v c = search rules
+enum_known-v : tie.Need-enum_known-v
+enum_known-v c = search rules
 
-put-decimal-requires : tie.Need-put-decimal-requires
-put-decimal-requires c κs = search rules
+put_decimal-requires : tie.Need-put_decimal-requires
+put_decimal-requires c κs = search rules
 
-enum-known-v-2 : tie.Need-enum-known-v-2
-enum-known-v-2 c = search rules
+enum_known-v-in-Bool-1 : tie.Need-enum_known-v-in-Bool-1
+enum_known-v-in-Bool-1 c = search rules
 
-put-bool-requires : tie.Need-put-bool-requires
-put-bool-requires c κs = search rules
+put_bool-requires : tie.Need-put_bool-requires
+put_bool-requires c κs = search rules
 
-enum-known-v-3 : tie.Need-enum-known-v-3
-enum-known-v-3 c = search rules
+enum_known-v-in-Text-1 : tie.Need-enum_known-v-in-Text-1
+enum_known-v-in-Text-1 c = search rules
 
-put-text-requires : tie.Need-put-text-requires
-put-text-requires c κs = search rules
+put_text-requires : tie.Need-put_text-requires
+put_text-requires c κs = search rules
 
-same_length : tie.Need-same-length
-same_length c = search rules
+shape_of-bytes-in-Signed : tie.Need-shape_of-bytes-in-Signed
+shape_of-bytes-in-Signed c = search rules
 
-returns : tie.Need-returns
-returns c =
-    let f : SFits w64 c.before.before.before.before.before.v.given.0.0 = search rules in
-    rw c.before.before.before.before.before.v.given.1 (rw (to_z-of_z f) at c.before.before.put-decimal.ensures)
+returns-in-Signed : tie.Need-returns-in-Signed
+returns-in-Signed c =
+    let f : SFits w64 c.in-Signed.x = search rules in
+    rw c.in-Signed.is (rw (to_z-of_z f) at c.put_decimal.ensures)
 
-same-length-2 : tie.Need-same-length-2
-same-length-2 c = search rules
+shape_of-bytes-in-Bool : tie.Need-shape_of-bytes-in-Bool
+shape_of-bytes-in-Bool c = search rules
 
-returns-2 : tie.Need-returns-2
-returns-2 c = rw c.before.before.before.before.before.v2.given.1 (c.before.before.put-bool.ensures.0, c.before.before.put-bool.ensures.1)
+returns-in-Bool : tie.Need-returns-in-Bool
+returns-in-Bool c = rw c.in-Bool.is (c.put_bool.ensures.0, c.put_bool.ensures.1)
 
-same-length-3 : tie.Need-same-length-3
-same-length-3 c = search rules
+shape_of-bytes-in-Text : tie.Need-shape_of-bytes-in-Text
+shape_of-bytes-in-Text c = search rules
 
-returns-3 : tie.Need-returns-3
+returns-in-Text : tie.Need-returns-in-Text
 unfolding pool_text text_of
-returns-3 c = rw c.before.before.before.before.before.v3.given.1 (c.before.before.put-text.ensures.0, c.before.before.put-text.ensures.1)
+returns-in-Text c = rw c.in-Text.is (c.put_text.ensures.0, c.put_text.ensures.1)
 
-returns-4 : tie.Need-returns-4
-returns-4 c =
-    let start = c.before.before.before in
-    let a = start.args in
-    rw (prints_nothing a.image.now a.h _ a.v c.match.keys4) (puts_nothing a.at a.bytes.now start.requires.2)
+returns-in_default : tie.Need-returns-in_default
+returns-in_default c =
+    let a = c.args in
+    rw (prints_nothing a.image.now a.h _ a.v c.in_default.in_default-own.keys4) (puts_nothing a.at a.bytes.now c.requires.2)
 
 pub put_value_spec : {M : Type 1} → statement M
 put_value_spec =
     tie.close
     (tie.spec
-    enum-known-v
-    put-decimal-requires
-    enum-known-v-2
-    put-bool-requires
-    enum-known-v-3
-    put-text-requires
-    same_length
-    returns
-    same-length-2
-    returns-2
-    same-length-3
-    returns-3
-    returns-4)
+    enum_known-v
+    put_decimal-requires
+    enum_known-v-in-Bool-1
+    put_bool-requires
+    enum_known-v-in-Text-1
+    put_text-requires
+    shape_of-bytes-in-Signed
+    returns-in-Signed
+    shape_of-bytes-in-Bool
+    returns-in-Bool
+    shape_of-bytes-in-Text
+    returns-in-Text
+    returns-in_default)

@@ -4,31 +4,31 @@ use borrow.Author.Rules.{rules}
 use Rattle.entering.proofs.take.Statement.{statement}
 use Rattle.entering.proofs.take.Tie as tie
 
+returns-then-depth-gt128 : tie.Need-returns-then-depth-gt128
+returns-then-depth-gt128 c = deep c.if-depth-gt128.true
+
+bounds-run-0 : tie.Need-bounds-run-0
+bounds-run-0 c = search rules
+
+bounds-run-0-then-left-takes : tie.Need-bounds-run-0-then-left-takes
+bounds-run-0-then-left-takes c = search rules
+
+returns-then-left-takes : tie.Need-returns-then-left-takes
+returns-then-left-takes c = spent c.if-depth-gt128.false c.if-left-takes.true
+
+bounds-run-0-2 : tie.Need-bounds-run-0-2
+bounds-run-0-2 c = search rules
+
 returns : tie.Need-returns
-returns c = deep c.if1.true
-
-element-copy-out-left : tie.Need-element-copy-out-left
-element-copy-out-left c = search rules
-
-element-write-run : tie.Need-element-write-run
-element-write-run c = search rules
-
-returns-2 : tie.Need-returns-2
-returns-2 c = spent c.before.before.if1.false c.if2.true
-
-element-write-run-2 : tie.Need-element-write-run-2
-element-write-run-2 c = search rules
-
-returns-3 : tie.Need-returns-3
-returns-3 c = took c.before.before.if1.false c.if2.false
+returns c = took c.if-depth-gt128.false c.if-left-takes.false
 
 pub take_spec : {M : Type 1} → statement M
 take_spec =
     tie.close
     (tie.spec
-    returns
-    element-copy-out-left
-    element-write-run
-    returns-2
-    element-write-run-2
-    returns-3)
+    returns-then-depth-gt128
+    bounds-run-0
+    bounds-run-0-then-left-takes
+    returns-then-left-takes
+    bounds-run-0-2
+    returns)

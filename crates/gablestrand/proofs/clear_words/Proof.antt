@@ -9,52 +9,52 @@ use Rattle.gablestrand.proofs.Clearing.{cleared_none, cleared_step, cleared_end}
 use Rattle.gablestrand.proofs.clear_words.Statement.{statement}
 use Rattle.gablestrand.proofs.clear_words.Tie as tie
 
-abbrev invariant-loop : tie.invariant-loop
-invariant-loop words₀ i₀ words i = (i ≤ length words₀) × (length words ≡ length words₀) × (words ≡ cleared i words₀)
+abbrev invariant-loop-i : tie.invariant-loop-i
+invariant-loop-i words₀ i₀ words i = (i ≤ length words₀) × (length words ≡ length words₀) × (words ≡ cleared i words₀)
 
-abbrev decreases-loop : tie.decreases-loop
-decreases-loop words₀ i₀ words i = length words₀ - i
+abbrev decreases-loop-i : tie.decreases-loop-i
+decreases-loop-i words₀ i₀ words i = length words₀ - i
 
-loop-holds : tie.Need-loop-init invariant-loop decreases-loop
-loop-holds c = (omega arith, refl, sym (cleared_none c.args.words.now))
+loop-i-init : tie.Need-loop-i-init invariant-loop-i decreases-loop-i
+loop-i-init c = (omega arith, refl, sym (cleared_none c.args.words.now))
 
-mul_words : tie.Need-overflow-mul-words invariant-loop decreases-loop
-mul_words c = search rules
+offset_bounds-words-i : tie.Need-offset_bounds-words-i invariant-loop-i decreases-loop-i
+offset_bounds-words-i c = search rules
 
-slice-write-words : tie.Need-slice-write-words invariant-loop decreases-loop
-slice-write-words c = search rules
+bounds-words-i : tie.Need-bounds-words-i invariant-loop-i decreases-loop-i
+bounds-words-i c = search rules
 
-add-i : tie.Need-overflow-add-i invariant-loop decreases-loop
-add-i c = search rules
+overflow_add-i : tie.Need-overflow_add-i invariant-loop-i decreases-loop-i
+overflow_add-i c = search rules
 
-loop-less : tie.Need-loop-smaller invariant-loop decreases-loop
-loop-less c = search rules
+loop-i-smaller : tie.Need-loop-i-smaller invariant-loop-i decreases-loop-i
+loop-i-smaller c = search rules
 
-loop-again : tie.Need-loop-preserved invariant-loop decreases-loop
-loop-again c =
-    let l = c.before.loop in
-    let inside : l.i < length c.before.before.args.words.now = omega arith in
-    (omega arith, simp length-set l.invariant.1, cleared_step l.i c.before.before.args.words.now l.words inside l.invariant.2)
+loop-i-preserved : tie.Need-loop-i-preserved invariant-loop-i decreases-loop-i
+loop-i-preserved c =
+    let l = c.loop-i in
+    let inside : l.i < length c.args.words.now = omega arith in
+    (omega arith, simp length-set l.invariant.1, cleared_step l.i c.args.words.now l.words inside l.invariant.2)
 
-same_length : tie.Need-same-length invariant-loop decreases-loop
-same_length c = c.before.loop.invariant.1
+shape_of-words : tie.Need-shape_of-words invariant-loop-i decreases-loop-i
+shape_of-words c = c.loop-i.invariant.1
 
-returns : tie.Need-returns invariant-loop decreases-loop
+returns : tie.Need-returns invariant-loop-i decreases-loop-i
 returns c =
-    let l = c.before.loop in
-    cleared_end l.i c.before.before.args.words.now l.words (omega arith) l.invariant.2
+    let l = c.loop-i in
+    cleared_end l.i c.args.words.now l.words (omega arith) l.invariant.2
 
 pub clear_words_spec : {M : Type 1} → statement M
 clear_words_spec =
     tie.close
     (tie.spec
-    invariant-loop
-    decreases-loop
-    loop-holds
-    mul_words
-    slice-write-words
-    add-i
-    loop-less
-    loop-again
-    same_length
+    invariant-loop-i
+    decreases-loop-i
+    loop-i-init
+    offset_bounds-words-i
+    bounds-words-i
+    overflow_add-i
+    loop-i-smaller
+    loop-i-preserved
+    shape_of-words
     returns)

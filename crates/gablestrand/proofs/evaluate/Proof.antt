@@ -7,83 +7,78 @@ use mathlib.Core.Path.{sym}
 use borrow.Author.Rules.{rules}
 use Rattle.gablestrand.proofs.evaluate.Statement.{statement}
 use Rattle.gablestrand.proofs.evaluate.Tie as tie
-use Rattle.gablestrand.proofs.evaluate.Reads as reads
-use Rattle.gablestrand.proofs.evaluate.Lts as lts
-use Rattle.gablestrand.proofs.answer_of.Reads as answer-of-reads
-use Rattle.gablestrand.proofs.clear_bytes.Reads as clear-bytes-reads
-use Rattle.gablestrand.proofs.clear_words.Reads as clear-words-reads
+
+returns-then-words-lt-WORDS : tie.Need-returns-then-words-lt-WORDS
+returns-then-words-lt-WORDS c = short (inl c.if-words-lt-WORDS.true)
+
+returns-then-bytes-lt-BYTES : tie.Need-returns-then-bytes-lt-BYTES
+returns-then-bytes-lt-BYTES c = short (inr c.if-bytes-lt-BYTES.true)
+
+slice_bounds-answer_of-end : tie.Need-slice_bounds-answer_of-end
+slice_bounds-answer_of-end c = search rules
+
+slice_bounds-answer_of-end-2 : tie.Need-slice_bounds-answer_of-end-2
+slice_bounds-answer_of-end-2 c = part_length 8192 c.args.words.now c.if-words-lt-WORDS.false
+
+slice_bounds-answer_of-end-3 : tie.Need-slice_bounds-answer_of-end-3
+slice_bounds-answer_of-end-3 c = search rules
+
+slice_bounds-answer_of-end-4 : tie.Need-slice_bounds-answer_of-end-4
+slice_bounds-answer_of-end-4 c = part_length 16384 c.args.bytes.now c.if-bytes-lt-BYTES.false
+
+answer_of-answer-requires : tie.Need-answer_of-answer-requires
+answer_of-answer-requires c κs = (sym (part_length 8192 c.args.words.now c.if-words-lt-WORDS.false), sym (part_length 16384 c.args.bytes.now c.if-bytes-lt-BYTES.false))
+
+slice_bounds-clear_words-end : tie.Need-slice_bounds-clear_words-end
+slice_bounds-clear_words-end c = search rules
+
+slice_bounds-clear_words-end-2 : tie.Need-slice_bounds-clear_words-end-2
+slice_bounds-clear_words-end-2 c = back_part 8192 c.answer_of-answer.new.words c.args.words.now c.if-words-lt-WORDS.false c.words-1.given.0
+
+clear_words-requires : tie.Need-clear_words-requires
+clear_words-requires c κs = search rules
+
+slice_bounds-clear_bytes-end : tie.Need-slice_bounds-clear_bytes-end
+slice_bounds-clear_bytes-end c = search rules
+
+slice_bounds-clear_bytes-end-2 : tie.Need-slice_bounds-clear_bytes-end-2
+slice_bounds-clear_bytes-end-2 c = back_part 16384 c.answer_of-answer.new.bytes c.args.bytes.now c.if-bytes-lt-BYTES.false c.bytes-1.given.0
+
+clear_bytes-requires : tie.Need-clear_bytes-requires
+clear_bytes-requires c κs = search rules
+
+shape_of-words : tie.Need-shape_of-words
+shape_of-words c = cleared_back_length 8192 c.answer_of-answer.new.words c.clear_words.new.words c.args.words.now c.if-words-lt-WORDS.false c.words-1.given.0 c.clear_words.ensures
+
+shape_of-bytes : tie.Need-shape_of-bytes
+shape_of-bytes c = cleared_back_length 16384 c.answer_of-answer.new.bytes c.clear_bytes.new.bytes c.args.bytes.now c.if-bytes-lt-BYTES.false c.bytes-1.given.0 c.clear_bytes.ensures
+
+shape_of-out : tie.Need-shape_of-out
+shape_of-out c = search rules
 
 returns : tie.Need-returns
-returns c = short (inl c.if1.true)
-
-returns-2 : tie.Need-returns-2
-returns-2 c = short (inr c.if2.true)
-
-slice-relend-prefix-answer-of : tie.Need-slice-relend-prefix-answer-of
-slice-relend-prefix-answer-of c = search rules
-
-slice-aggregate-answer-of : tie.Need-slice-aggregate-answer-of
-slice-aggregate-answer-of c = part_length 8192 c.before.before.before.before.before.before.before.args.words.now c.before.before.if1.false
-
-slice-relend-prefix-answer-of-2 : tie.Need-slice-relend-prefix-answer-of-2
-slice-relend-prefix-answer-of-2 c = search rules
-
-slice-aggregate-answer-of-2 : tie.Need-slice-aggregate-answer-of-2
-slice-aggregate-answer-of-2 c = part_length 16384 c.before.before.before.before.before.before.before.before.args.bytes.now c.before.before.if2.false
-
-answer-of-requires : tie.Need-answer-of-requires
-answer-of-requires c κs = (sym (part_length 8192 c.before.before.before.before.before.before.before.before.before.args.words.now c.before.before.before.before.if1.false), sym (part_length 16384 c.before.before.before.before.before.before.before.before.before.args.bytes.now c.before.before.before.if2.false))
-
-slice-relend-prefix-clear-words : tie.Need-slice-relend-prefix-clear-words
-slice-relend-prefix-clear-words c = search rules
-
-slice-aggregate-clear-words : tie.Need-slice-aggregate-clear-words
-slice-aggregate-clear-words c = back_part 8192 c.before.before.before.before.before.before.before.answer_of.new.1.1.0 c.before.before.before.before.before.before.before.before.before.before.before.before.before.before.before.before.before.args.words.now c.before.before.before.before.before.before.before.before.before.before.before.before.if1.false c.before.before.before.before.before.before.words.given.0
-
-clear-words-requires : tie.Need-clear-words-requires
-clear-words-requires c κs = search rules
-
-slice-relend-prefix-clear-bytes : tie.Need-slice-relend-prefix-clear-bytes
-slice-relend-prefix-clear-bytes c = search rules
-
-slice-aggregate-clear-bytes : tie.Need-slice-aggregate-clear-bytes
-slice-aggregate-clear-bytes c = back_part 16384 c.before.before.before.before.before.before.before.before.before.before.before.answer_of.new.1.1.1.0 c.before.before.before.before.before.before.before.before.before.before.before.before.before.before.before.before.before.before.before.before.before.args.bytes.now c.before.before.before.before.before.before.before.before.before.before.before.before.before.before.before.if2.false c.before.before.before.before.before.before.before.before.bytes.given.0
-
-clear-bytes-requires : tie.Need-clear-bytes-requires
-clear-bytes-requires c κs = search rules
-
-same_length : tie.Need-same-length
-same_length c = cleared_back_length 8192 c.before.before.before.before.before.before.before.before.before.before.before.before.before.before.answer_of.new.1.1.0 c.before.before.before.before.before.before.clear-words.new.0 c.before.before.before.before.before.before.before.before.before.before.before.before.before.before.before.before.before.before.before.before.before.before.before.before.args.words.now c.before.before.before.before.before.before.before.before.before.before.before.before.before.before.before.before.before.before.before.if1.false c.before.before.before.before.before.before.before.before.before.before.before.before.before.words.given.0 c.before.before.before.before.before.before.clear-words.ensures
-
-same-length-2 : tie.Need-same-length-2
-same-length-2 c = cleared_back_length 16384 c.before.before.before.before.before.before.before.before.before.before.before.before.before.before.answer_of.new.1.1.1.0 c.before.before.clear-bytes.new.0 c.before.before.before.before.before.before.before.before.before.before.before.before.before.before.before.before.before.before.before.before.before.before.before.before.args.bytes.now c.before.before.before.before.before.before.before.before.before.before.before.before.before.before.before.before.before.before.if2.false c.before.before.before.before.before.before.before.before.before.before.before.bytes.given.0 c.before.before.clear-bytes.ensures
-
-same-length-3 : tie.Need-same-length-3
-same-length-3 c = search rules
-
-returns-3 : tie.Need-returns-3
-returns-3 c = cleared_after (c.before.before.before.before.before.before.before.before.before.before.before.before.before.before.before.before.before.before.before.if1.false, c.before.before.before.before.before.before.before.before.before.before.before.before.before.before.before.before.before.before.if2.false) c.before.before.before.before.before.before.before.before.before.before.before.before.before.before.answer_of.ensures
-    (cleared_back 8192 c.before.before.before.before.before.before.before.before.before.before.before.before.before.before.answer_of.new.1.1.0 c.before.before.before.before.before.before.clear-words.new.0 c.before.before.before.before.before.before.before.before.before.before.before.before.before.before.before.before.before.before.before.before.before.before.before.before.args.words.now c.before.before.before.before.before.before.before.before.before.before.before.before.before.before.before.before.before.before.before.if1.false c.before.before.before.before.before.before.before.before.before.before.before.before.before.words.given.0 c.before.before.before.before.before.before.clear-words.ensures)
-    (cleared_back 16384 c.before.before.before.before.before.before.before.before.before.before.before.before.before.before.answer_of.new.1.1.1.0 c.before.before.clear-bytes.new.0 c.before.before.before.before.before.before.before.before.before.before.before.before.before.before.before.before.before.before.before.before.before.before.before.before.args.bytes.now c.before.before.before.before.before.before.before.before.before.before.before.before.before.before.before.before.before.before.if2.false c.before.before.before.before.before.before.before.before.before.before.before.bytes.given.0 c.before.before.clear-bytes.ensures)
+returns c = cleared_after (c.if-words-lt-WORDS.false, c.if-bytes-lt-BYTES.false) c.answer_of-answer.ensures
+    (cleared_back 8192 c.answer_of-answer.new.words c.clear_words.new.words c.args.words.now c.if-words-lt-WORDS.false c.words-1.given.0 c.clear_words.ensures)
+    (cleared_back 16384 c.answer_of-answer.new.bytes c.clear_bytes.new.bytes c.args.bytes.now c.if-bytes-lt-BYTES.false c.bytes-1.given.0 c.clear_bytes.ensures)
 
 pub evaluate_spec : {M : Type 1} → statement M
 evaluate_spec =
     tie.close
     (tie.spec
-    returns
-    returns-2
-    slice-relend-prefix-answer-of
-    slice-aggregate-answer-of
-    slice-relend-prefix-answer-of-2
-    slice-aggregate-answer-of-2
-    answer-of-requires
-    slice-relend-prefix-clear-words
-    slice-aggregate-clear-words
-    clear-words-requires
-    slice-relend-prefix-clear-bytes
-    slice-aggregate-clear-bytes
-    clear-bytes-requires
-    same_length
-    same-length-2
-    same-length-3
-    returns-3)
+    returns-then-words-lt-WORDS
+    returns-then-bytes-lt-BYTES
+    slice_bounds-answer_of-end
+    slice_bounds-answer_of-end-2
+    slice_bounds-answer_of-end-3
+    slice_bounds-answer_of-end-4
+    answer_of-answer-requires
+    slice_bounds-clear_words-end
+    slice_bounds-clear_words-end-2
+    clear_words-requires
+    slice_bounds-clear_bytes-end
+    slice_bounds-clear_bytes-end-2
+    clear_bytes-requires
+    shape_of-words
+    shape_of-bytes
+    shape_of-out
+    returns)

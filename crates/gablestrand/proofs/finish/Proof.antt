@@ -3,59 +3,56 @@ use Rattle.gablestrand.proofs.FinishLaws.{finished_length, finished_nested, fini
 use borrow.Author.Rules.{rules}
 use Rattle.gablestrand.proofs.finish.Statement.{statement}
 use Rattle.gablestrand.proofs.finish.Tie as tie
-use Rattle.gablestrand.proofs.finish.Reads as reads
-use Rattle.gablestrand.proofs.finish.Lts as lts
-use Rattle.output.proofs.write_value.Reads as write-value-reads
 
-write-value-requires : tie.Need-write-value-requires
-write-value-requires c κs = search rules
+write_value-written-requires : tie.Need-write_value-written-requires
+write_value-written-requires c κs = search rules
 
-enum-known-written : tie.Need-enum-known-written
-enum-known-written c = search rules
+enum_known-written : tie.Need-enum_known-written
+enum_known-written c = search rules
 
-enum_told : tie.Need-enum-told
-enum_told c = search rules
+enum_told-1 : tie.Need-enum_told-1
+enum_told-1 c = search rules
 
-cast-t15 : tie.Need-overflow-cast-t15
-cast-t15 c = search rules
+overflow_cast-result : tie.Need-overflow_cast-result
+overflow_cast-result c = search rules
 
-enum-told-2 : tie.Need-enum-told-2
-enum-told-2 c = search rules
+enum_told-in-Full : tie.Need-enum_told-in-Full
+enum_told-in-Full c = search rules
 
-cast-t17 : tie.Need-overflow-cast-t17
-cast-t17 c = search rules
+overflow_cast-result-in-Full : tie.Need-overflow_cast-result-in-Full
+overflow_cast-result-in-Full c = search rules
 
-same_length : tie.Need-same-length
-same_length c = search rules
+shape_of-out-in-Length : tie.Need-shape_of-out-in-Length
+shape_of-out-in-Length c = search rules
 
-returns : tie.Need-returns
-returns c = finished_length c.before.before.before.before.before.write-value.ensures c.before.written.given.1
+returns-in-Length : tie.Need-returns-in-Length
+returns-in-Length c = finished_length c.write_value-written.ensures c.in-Length.is
 
-same-length-2 : tie.Need-same-length-2
-same-length-2 c = search rules
+shape_of-out-in-Nested : tie.Need-shape_of-out-in-Nested
+shape_of-out-in-Nested c = search rules
 
-returns-2 : tie.Need-returns-2
-returns-2 c = finished_nested c.before.before.before.before.before.write-value.ensures c.before.enum_told.given.1
+returns-in-Nested : tie.Need-returns-in-Nested
+returns-in-Nested c = finished_nested c.write_value-written.ensures c.in-Nested.is
 
-same-length-3 : tie.Need-same-length-3
-same-length-3 c = search rules
+shape_of-out-in-Full : tie.Need-shape_of-out-in-Full
+shape_of-out-in-Full c = search rules
 
-returns-3 : tie.Need-returns-3
-returns-3 c = finished_full c.before.before.before.before.before.write-value.ensures c.before.enum-told2.given.1
+returns-in-Full : tie.Need-returns-in-Full
+returns-in-Full c = finished_full c.write_value-written.ensures c.in-Full.is
 
 pub finish_spec : {M : Type 1} → statement M
 finish_spec =
     tie.close
     (tie.spec
-    write-value-requires
-    enum-known-written
-    enum_told
-    cast-t15
-    enum-told-2
-    cast-t17
-    same_length
-    returns
-    same-length-2
-    returns-2
-    same-length-3
-    returns-3)
+    write_value-written-requires
+    enum_known-written
+    enum_told-1
+    overflow_cast-result
+    enum_told-in-Full
+    overflow_cast-result-in-Full
+    shape_of-out-in-Length
+    returns-in-Length
+    shape_of-out-in-Nested
+    returns-in-Nested
+    shape_of-out-in-Full
+    returns-in-Full)

@@ -4,112 +4,108 @@ use Rattle.gablestrand.proofs.RootLaws.{fresh_ready, loaded_whole, left_within, 
 use borrow.Author.Rules.{rules}
 use Rattle.gablestrand.proofs.run_image.Statement.{statement}
 use Rattle.gablestrand.proofs.run_image.Tie as tie
-use Rattle.gablestrand.proofs.run_image.Reads as reads
-use Rattle.gablestrand.proofs.run_image.Lts as lts
-use Rattle.eval.proofs.ir_expr.Reads as ir-expr-reads
-use Rattle.gablestrand.proofs.finish.Reads as finish-reads
 
-array-write-run : tie.Need-array-write-run
-array-write-run c = search rules
+bounds-run-0 : tie.Need-bounds-run-0
+bounds-run-0 c = search rules
 
-ir-expr-requires : tie.Need-ir-expr-requires
-ir-expr-requires c κs = fresh_ready _ c.before.before.before.before.before.before.before.requires.0 c.before.before.before.before.before.before.before.requires.1 c.before.before.before.before.before.before.before.requires.2
+ir_expr-outcome-requires : tie.Need-ir_expr-outcome-requires
+ir_expr-outcome-requires c κs = fresh_ready _ c.requires.0 c.requires.1 c.requires.2
 
-array-read-steps : tie.Need-array-read-steps
-array-read-steps c = search rules
+bounds-run-0-2 : tie.Need-bounds-run-0-2
+bounds-run-0-2 c = search rules
 
-sub-steps : tie.Need-overflow-sub-steps
-sub-steps c = left_within c.before.before.before.before.ir-expr.ensures
+overflow_sub-steps : tie.Need-overflow_sub-steps
+overflow_sub-steps c = left_within c.ir_expr-outcome.ensures
 
-enum-known-outcome : tie.Need-enum-known-outcome
-enum-known-outcome c = search rules
+enum_known-outcome : tie.Need-enum_known-outcome
+enum_known-outcome c = search rules
 
 finish-requires : tie.Need-finish-requires
-finish-requires c κs = record { whole = loaded_whole _ c.before.before.before.before.before.before.before.before.before.before.before.before.before.before.before.before.before.before.before.requires.0; fits = c.before.before.before.before.before.before.before.before.before.before.before.ir-expr.ensures.fits; room = omega (arith, c.before.before.before.before.before.before.before.before.before.before.before.ir-expr.ensures.room, c.before.before.before.before.before.before.before.before.before.before.before.before.before.before.before.before.before.before.before.requires.2) }
+finish-requires c κs = record { whole = loaded_whole _ c.requires.0; fits = c.ir_expr-outcome.ensures.fits; room = omega (arith, c.ir_expr-outcome.ensures.room, c.requires.2) }
 
-enum-known-outcome-2 : tie.Need-enum-known-outcome-2
-enum-known-outcome-2 c = search rules
+enum_known-outcome-in-Broke-1 : tie.Need-enum_known-outcome-in-Broke-1
+enum_known-outcome-in-Broke-1 c = search rules
 
-cast-t34 : tie.Need-overflow-cast-t34
-cast-t34 c = search rules
+overflow_cast-result : tie.Need-overflow_cast-result
+overflow_cast-result c = search rules
 
-enum-known-outcome-3 : tie.Need-enum-known-outcome-3
-enum-known-outcome-3 c = search rules
+enum_known-outcome-in-Refused-1 : tie.Need-enum_known-outcome-in-Refused-1
+enum_known-outcome-in-Refused-1 c = search rules
 
-cast-t35 : tie.Need-overflow-cast-t35
-cast-t35 c = search rules
+overflow_cast-result-in-Refused : tie.Need-overflow_cast-result-in-Refused
+overflow_cast-result-in-Refused c = search rules
 
-enum-known-outcome-4 : tie.Need-enum-known-outcome-4
-enum-known-outcome-4 c = search rules
+enum_known-outcome-in-Spent-1 : tie.Need-enum_known-outcome-in-Spent-1
+enum_known-outcome-in-Spent-1 c = search rules
 
-cast-t36 : tie.Need-overflow-cast-t36
-cast-t36 c = search rules
+overflow_cast-result-in-Spent : tie.Need-overflow_cast-result-in-Spent
+overflow_cast-result-in-Spent c = search rules
 
-same_length : tie.Need-same-length
-same_length c = search rules
+shape_of-words-in-Done : tie.Need-shape_of-words-in-Done
+shape_of-words-in-Done c = search rules
 
-same-length-2 : tie.Need-same-length-2
-same-length-2 c = search rules
+shape_of-bytes-in-Done : tie.Need-shape_of-bytes-in-Done
+shape_of-bytes-in-Done c = search rules
 
-same-length-3 : tie.Need-same-length-3
-same-length-3 c = search rules
+shape_of-out : tie.Need-shape_of-out
+shape_of-out c = search rules
 
-returns : tie.Need-returns
-returns c = done c.before.before.before.before.before.before.before.before.before.before.before.before.before.before.ir-expr.ensures c.before.before.before.before.before.before.before.before.outcome.given.1 c.before.before.finish.ensures
+returns-in-Done : tie.Need-returns-in-Done
+returns-in-Done c = done c.ir_expr-outcome.ensures c.in-Done.is c.finish.ensures
 
-same-length-4 : tie.Need-same-length-4
-same-length-4 c = search rules
+shape_of-words-in-Broke : tie.Need-shape_of-words-in-Broke
+shape_of-words-in-Broke c = search rules
 
-same-length-5 : tie.Need-same-length-5
-same-length-5 c = search rules
+shape_of-bytes-in-Broke : tie.Need-shape_of-bytes-in-Broke
+shape_of-bytes-in-Broke c = search rules
 
-returns-2 : tie.Need-returns-2
-returns-2 c = broke c.before.before.before.before.before.before.before.ir-expr.ensures c.before.outcome2.given.1
+returns-in-Broke : tie.Need-returns-in-Broke
+returns-in-Broke c = broke c.ir_expr-outcome.ensures c.in-Broke.is
 
-same-length-6 : tie.Need-same-length-6
-same-length-6 c = search rules
+shape_of-words-in-Refused : tie.Need-shape_of-words-in-Refused
+shape_of-words-in-Refused c = search rules
 
-same-length-7 : tie.Need-same-length-7
-same-length-7 c = search rules
+shape_of-bytes-in-Refused : tie.Need-shape_of-bytes-in-Refused
+shape_of-bytes-in-Refused c = search rules
 
-returns-3 : tie.Need-returns-3
-returns-3 c = stopped_at c.before.before.before.before.before.before.before.ir-expr.ensures c.before.outcome3.given.1
+returns-in-Refused : tie.Need-returns-in-Refused
+returns-in-Refused c = stopped_at c.ir_expr-outcome.ensures c.in-Refused.is
 
-same-length-8 : tie.Need-same-length-8
-same-length-8 c = search rules
+shape_of-words-in-Spent : tie.Need-shape_of-words-in-Spent
+shape_of-words-in-Spent c = search rules
 
-same-length-9 : tie.Need-same-length-9
-same-length-9 c = search rules
+shape_of-bytes-in-Spent : tie.Need-shape_of-bytes-in-Spent
+shape_of-bytes-in-Spent c = search rules
 
-returns-4 : tie.Need-returns-4
-returns-4 c = starved c.before.before.before.before.before.before.before.ir-expr.ensures c.before.outcome4.given.1
+returns-in-Spent : tie.Need-returns-in-Spent
+returns-in-Spent c = starved c.ir_expr-outcome.ensures c.in-Spent.is
 
 pub run_image_spec : {M : Type 1} → statement M
 run_image_spec =
     tie.close
     (tie.spec
-    array-write-run
-    ir-expr-requires
-    array-read-steps
-    sub-steps
-    enum-known-outcome
+    bounds-run-0
+    ir_expr-outcome-requires
+    bounds-run-0-2
+    overflow_sub-steps
+    enum_known-outcome
     finish-requires
-    enum-known-outcome-2
-    cast-t34
-    enum-known-outcome-3
-    cast-t35
-    enum-known-outcome-4
-    cast-t36
-    same_length
-    same-length-2
-    same-length-3
-    returns
-    same-length-4
-    same-length-5
-    returns-2
-    same-length-6
-    same-length-7
-    returns-3
-    same-length-8
-    same-length-9
-    returns-4)
+    enum_known-outcome-in-Broke-1
+    overflow_cast-result
+    enum_known-outcome-in-Refused-1
+    overflow_cast-result-in-Refused
+    enum_known-outcome-in-Spent-1
+    overflow_cast-result-in-Spent
+    shape_of-words-in-Done
+    shape_of-bytes-in-Done
+    shape_of-out
+    returns-in-Done
+    shape_of-words-in-Broke
+    shape_of-bytes-in-Broke
+    returns-in-Broke
+    shape_of-words-in-Refused
+    shape_of-bytes-in-Refused
+    returns-in-Refused
+    shape_of-words-in-Spent
+    shape_of-bytes-in-Spent
+    returns-in-Spent)

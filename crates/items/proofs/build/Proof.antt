@@ -8,105 +8,93 @@ use borrow.Author.Rules.{rules}
 use Rattle.items.proofs.build.Statement.{statement}
 use Rattle.items.proofs.build.Tie as tie
 
-node-at-requires : tie.Need-node-at-requires
-node-at-requires c κs = node_there c.before.before.before.requires.0
+node_at-node-requires : tie.Need-node_at-node-requires
+node_at-node-requires c κs = node_there c.requires.0
 
-make-template-requires : tie.Need-make-template-requires
-make-template-requires c κs =
-    let arm = c.before.before.before in
-    let start = arm.before.before.before.before.before in
-    (of_kind start.requires.0 _ arm.before.node_at.ensures arm.match.keys1, start.requires.2, start.requires.3)
+make_template-requires : tie.Need-make_template-requires
+make_template-requires c κs =
+    (of_kind c.requires.0 _ c.node_at-node.ensures c.in-6.is, c.requires.2, c.requires.3)
 
 made-requires : tie.Need-made-requires
 made-requires c κs = search rules
 
-make-vec-requires : tie.Need-make-vec-requires
-make-vec-requires c κs = search rules
+make_vec-requires : tie.Need-make_vec-requires
+make_vec-requires c κs = search rules
 
-made-requires-2 : tie.Need-made-requires-2
-made-requires-2 c κs = search rules
+made-requires-in-13 : tie.Need-made-requires-in-13
+made-requires-in-13 c κs = search rules
 
-make-tuple-requires : tie.Need-make-tuple-requires
-make-tuple-requires c κs = search rules
+make_tuple-requires : tie.Need-make_tuple-requires
+make_tuple-requires c κs = search rules
 
-made-requires-3 : tie.Need-made-requires-3
-made-requires-3 c κs = search rules
+made-requires-in-14 : tie.Need-made-requires-in-14
+made-requires-in-14 c κs = search rules
 
-make-object-requires : tie.Need-make-object-requires
-make-object-requires c κs =
-    let arm = c.before.before in
-    let start = arm.before.before.before.before.before in
-    (of_kind start.requires.0 _ arm.before.node_at.ensures arm.match.keys4, start.requires.2)
+make_object-requires : tie.Need-make_object-requires
+make_object-requires c κs =
+    (of_kind c.requires.0 _ c.node_at-node.ensures c.in-15.is, c.requires.2)
 
-made-requires-4 : tie.Need-made-requires-4
-made-requires-4 c κs = search rules
+made-requires-in-15 : tie.Need-made-requires-in-15
+made-requires-in-15 c κs = search rules
 
-same_length : tie.Need-same-length
-same_length c = search rules
+shape_of-words-in-6 : tie.Need-shape_of-words-in-6
+shape_of-words-in-6 c = search rules
 
-same-length-2 : tie.Need-same-length-2
-same-length-2 c = search rules
+shape_of-bytes : tie.Need-shape_of-bytes
+shape_of-bytes c = search rules
 
-returns : tie.Need-returns
+returns-in-6 : tie.Need-returns-in-6
 unfolding kind_of kinds
-returns c =
-    let call = c.before.before.before in
-    let arm = call.before.before.before.before in
-    template_done _ arm.before.node_at.ensures (ap kind_of arm.match.keys1) call.make-template.ensures c.made.ensures
+returns-in-6 c =
+    template_done _ c.node_at-node.ensures (ap kind_of c.in-6.is) c.make_template.ensures c.made.ensures
 
-same-length-3 : tie.Need-same-length-3
-same-length-3 c = search rules
+shape_of-words-in-13 : tie.Need-shape_of-words-in-13
+shape_of-words-in-13 c = search rules
 
-returns-2 : tie.Need-returns-2
+returns-in-13 : tie.Need-returns-in-13
 unfolding kind_of kinds
-returns-2 c =
-    let call = c.before.before.before in
-    let arm = call.before.before.before in
-    box_done _ arm.before.node_at.ensures vecs (ap kind_of arm.match.keys2) call.make-vec.ensures c.made2.ensures
+returns-in-13 c =
+    box_done _ c.node_at-node.ensures vecs (ap kind_of c.in-13.is) c.make_vec.ensures c.made-in-13.ensures
 
-same-length-4 : tie.Need-same-length-4
-same-length-4 c = search rules
+shape_of-words-in-14 : tie.Need-shape_of-words-in-14
+shape_of-words-in-14 c = search rules
 
-returns-3 : tie.Need-returns-3
+returns-in-14 : tie.Need-returns-in-14
 unfolding kind_of kinds
-returns-3 c =
-    let call = c.before.before.before in
-    let arm = call.before.before.before in
-    box_done _ arm.before.node_at.ensures tuples (ap kind_of arm.match.keys3) call.make-tuple.ensures c.made3.ensures
+returns-in-14 c =
+    box_done _ c.node_at-node.ensures tuples (ap kind_of c.in-14.is) c.make_tuple.ensures c.made-in-14.ensures
 
-same-length-5 : tie.Need-same-length-5
-same-length-5 c = search rules
+shape_of-words-in-15 : tie.Need-shape_of-words-in-15
+shape_of-words-in-15 c = search rules
 
-returns-4 : tie.Need-returns-4
+returns-in-15 : tie.Need-returns-in-15
 unfolding kind_of kinds
-returns-4 c =
-    let call = c.before.before.before in
-    let arm = call.before.before.before in
-    object_done _ arm.before.node_at.ensures (ap kind_of arm.match.keys4) call.make-object.ensures c.made4.ensures
+returns-in-15 c =
+    object_done _ c.node_at-node.ensures (ap kind_of c.in-15.is) c.make_object.ensures c.made-in-15.ensures
 
-returns-5 : tie.Need-returns-5
-returns-5 c = absurd (no_other c.before.before.before.before.before.requires.1 (rw c.before.node_at.ensures at c.match.rest))
+returns-in_default : tie.Need-returns-in_default
+returns-in_default c = absurd (no_other c.requires.1 (rw c.node_at-node.ensures at c.in_default.in_default-own.rest))
 
 pub build_spec : {M : Type 1} → statement M
 build_spec =
     tie.close
     (tie.spec
-    node-at-requires
-    make-template-requires
+    node_at-node-requires
+    make_template-requires
     made-requires
-    make-vec-requires
-    made-requires-2
-    make-tuple-requires
-    made-requires-3
-    make-object-requires
-    made-requires-4
-    same_length
-    same-length-2
-    returns
-    same-length-3
-    returns-2
-    same-length-4
-    returns-3
-    same-length-5
-    returns-4
-    returns-5)
+    make_vec-requires
+    made-requires-in-13
+    make_tuple-requires
+    made-requires-in-14
+    make_object-requires
+    made-requires-in-15
+    shape_of-words-in-6
+    shape_of-bytes
+    returns-in-6
+    shape_of-words-in-13
+    returns-in-13
+    shape_of-words-in-14
+    returns-in-14
+    shape_of-words-in-15
+    returns-in-15
+    returns-in_default)

@@ -5,45 +5,43 @@ use borrow.Author.Rules.{rules}
 use Rattle.items.proofs.finish_item.Statement.{statement}
 use Rattle.items.proofs.finish_item.Tie as tie
 
-enum-known-one : tie.Need-enum-known-one
-enum-known-one c = search rules
+enum_known-one : tie.Need-enum_known-one
+enum_known-one c = search rules
 
 accept-requires : tie.Need-accept-requires
 accept-requires c κs = search rules
 
-enum-known-one-2 : tie.Need-enum-known-one-2
-enum-known-one-2 c = search rules
+enum_known-one-in-Broke-1 : tie.Need-enum_known-one-in-Broke-1
+enum_known-one-in-Broke-1 c = search rules
 
-drop-pending-requires : tie.Need-drop-pending-requires
-drop-pending-requires c κs = search rules
+drop_pending-requires : tie.Need-drop_pending-requires
+drop_pending-requires c κs = search rules
 
-same_length : tie.Need-same-length
-same_length c = search rules
+shape_of-words : tie.Need-shape_of-words
+shape_of-words c = search rules
 
-returns : tie.Need-returns
-returns c =
-    let accepted = c.before.before in
-    item_over accepted.before.before.before.before.one.given.1 accepted.accept.ensures
+returns-in-Done : tie.Need-returns-in-Done
+returns-in-Done c =
+    item_over c.in-Done.is c.accept.ensures
 
-returns-2 : tie.Need-returns-2
-returns-2 c =
-    let broken = c.before.before.before in
-    item_broken broken.one2.given.1 broken.before.before.before.before.requires.1 c.drop-pending.ensures
+returns-in-Broke : tie.Need-returns-in-Broke
+returns-in-Broke c =
+    item_broken c.in-Broke.is c.requires.1 c.drop_pending.ensures
 
-returns-3 : tie.Need-returns-3
-returns-3 c =
-    let one = c.before.before.before.args.one in
-    λ depth bytes. after_out _ one (after_final _ one c.match.keys3)
+returns-in_default : tie.Need-returns-in_default
+returns-in_default c =
+    let one = c.args.one in
+    λ depth bytes. after_out _ one (after_final _ one c.in_default.in_default-own.keys3)
 
 pub finish_item_spec : {M : Type 1} → statement M
 finish_item_spec =
     tie.close
     (tie.spec
-    enum-known-one
+    enum_known-one
     accept-requires
-    enum-known-one-2
-    drop-pending-requires
-    same_length
-    returns
-    returns-2
-    returns-3)
+    enum_known-one-in-Broke-1
+    drop_pending-requires
+    shape_of-words
+    returns-in-Done
+    returns-in-Broke
+    returns-in_default)

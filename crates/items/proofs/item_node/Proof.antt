@@ -4,19 +4,18 @@ use Rattle.outcomes.proofs.NodeLaws.{node_there}
 use Rattle.items.proofs.item_node.Statement.{statement}
 use Rattle.items.proofs.item_node.Tie as tie
 
-node-at-requires : tie.Need-node-at-requires
-node-at-requires c κs = node_there c.before.requires.0
+node_at-node-requires : tie.Need-node_at-node-requires
+node_at-node-requires c κs = node_there c.requires.0
 
-node-at-requires-2 : tie.Need-node-at-requires-2
-node-at-requires-2 c κs = node_there c.before.before.before.before.requires.1
+node_at-entry-requires : tie.Need-node_at-entry-requires
+node_at-entry-requires c κs = node_there c.requires.1
+
+returns-then-node-eq15 : tie.Need-returns-then-node-eq15
+returns-then-node-eq15 c =
+    rw (eq-eqb _ _ (rw c.node_at-node.ensures at c.if-node-eq15.true), c.node_at-entry.ensures)
 
 returns : tie.Need-returns
-returns c =
-    let object = c.before in
-    rw (eq-eqb _ _ (rw object.before.before.node_at.ensures at object.if1.true), c.node-at2.ensures)
-
-returns-2 : tie.Need-returns-2
-returns-2 c = rw (ne_eqb _ _ (rw c.before.before.node_at.ensures at c.if1.false))
+returns c = rw (ne_eqb _ _ (rw c.node_at-node.ensures at c.if-node-eq15.false))
 
 pub item_node_spec : {M : Type 1} → statement M
-item_node_spec = tie.close (tie.spec node-at-requires node-at-requires-2 returns returns-2)
+item_node_spec = tie.close (tie.spec node_at-node-requires node_at-entry-requires returns-then-node-eq15 returns)

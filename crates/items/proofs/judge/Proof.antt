@@ -4,14 +4,14 @@ use borrow.Author.Rules.{rules}
 use Rattle.items.proofs.judge.Statement.{statement}
 use Rattle.items.proofs.judge.Tie as tie
 
-judge-component-requires : tie.Need-judge-component-requires
-judge-component-requires c κs = search rules
+judge_component-requires : tie.Need-judge_component-requires
+judge_component-requires c κs = search rules
+
+returns-then-kind-eq6 : tie.Need-returns-then-kind-eq6
+returns-then-kind-eq6 c = record { is = λ image h σ. rw (eq-eqb _ _ c.if-kind-eq6.true) (c.judge_component.ensures.is image h σ) }
 
 returns : tie.Need-returns
-returns c = record { is = λ image h σ. rw (eq-eqb _ _ c.before.if1.true) (c.judge-component.ensures.is image h σ) }
-
-returns-2 : tie.Need-returns-2
-returns-2 c = record { is = λ image h σ. rw (ne_eqb _ _ c.if1.false) }
+returns c = record { is = λ image h σ. rw (ne_eqb _ _ c.if-kind-eq6.false) }
 
 pub judge_spec : {M : Type 1} → statement M
-judge_spec = tie.close (tie.spec judge-component-requires returns returns-2)
+judge_spec = tie.close (tie.spec judge_component-requires returns-then-kind-eq6 returns)

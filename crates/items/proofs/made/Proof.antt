@@ -3,17 +3,17 @@ use borrow.Author.Rules.{rules}
 use Rattle.items.proofs.made.Statement.{statement}
 use Rattle.items.proofs.made.Tie as tie
 
-enum-known-x : tie.Need-enum-known-x
-enum-known-x c = search rules
+enum_known-x : tie.Need-enum_known-x
+enum_known-x c = search rules
 
-enum-known-x-2 : tie.Need-enum-known-x-2
-enum-known-x-2 c = search rules
+enum_known-x-in-Not-1 : tie.Need-enum_known-x-in-Not-1
+enum_known-x-in-Not-1 c = search rules
 
-returns : tie.Need-returns
-returns c = rw c.before.x.given.1
+returns-in-Is : tie.Need-returns-in-Is
+returns-in-Is c = rw c.in-Is.is
 
-returns-2 : tie.Need-returns-2
-returns-2 c = rw c.before.x2.given.1
+returns-in-Not : tie.Need-returns-in-Not
+returns-in-Not c = rw c.in-Not.is
 
 pub made_spec : {M : Type 1} → statement M
-made_spec = tie.close (tie.spec enum-known-x enum-known-x-2 returns returns-2)
+made_spec = tie.close (tie.spec enum_known-x enum_known-x-in-Not-1 returns-in-Is returns-in-Not)

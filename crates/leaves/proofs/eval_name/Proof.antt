@@ -5,41 +5,39 @@ use borrow.Author.Rules.{rules}
 use Rattle.leaves.proofs.eval_name.Statement.{statement}
 use Rattle.leaves.proofs.eval_name.Tie as tie
 
-node-at-requires : tie.Need-node-at-requires
-node-at-requires c κs = node_there (as_node c.before.before.requires.0)
+node_at-node-requires : tie.Need-node_at-node-requires
+node_at-node-requires c κs = node_there (as_node c.requires.0)
 
-look-up-requires : tie.Need-look-up-requires
-look-up-requires c κs = search rules
+look_up-requires : tie.Need-look_up-requires
+look_up-requires c κs = search rules
 
-enum-known-i : tie.Need-enum-known-i
-enum-known-i c = search rules
+enum_known-i : tie.Need-enum_known-i
+enum_known-i c = search rules
 
-bound-at-requires : tie.Need-bound-at-requires
-bound-at-requires c κs = search rules
+bound_at-requires : tie.Need-bound_at-requires
+bound_at-requires c κs = search rules
 
-enum_told : tie.Need-enum-told
-enum_told c = search rules
+enum_told-1 : tie.Need-enum_told-1
+enum_told-1 c = search rules
 
-returns : tie.Need-returns
-returns c =
-    let start = c.before.before.before.before.before.before.before.before in
-    name_bound start.args.depth start.requires.1 start.requires.0 _ c.before.before.before.before.before.node_at.ensures _
-    c.before.before.before.before.look_up.ensures _ c.before.before.i.given.1 _ c.bound_at.ensures
+returns-in-At : tie.Need-returns-in-At
+returns-in-At c =
+    name_bound c.args.depth c.requires.1 c.requires.0 _ c.node_at-node.ensures _
+    c.look_up.ensures _ c.in-At.is _ c.bound_at.ensures
 
-returns-2 : tie.Need-returns-2
-returns-2 c =
-    let start = c.before.before.before.before.before.before in
-    name_missing start.args.depth start.requires.1 start.requires.0 _ c.before.before.before.node_at.ensures _ c.before.before.look_up.ensures
-    c.enum_told.given.1
+returns-in-Nothing : tie.Need-returns-in-Nothing
+returns-in-Nothing c =
+    name_missing c.args.depth c.requires.1 c.requires.0 _ c.node_at-node.ensures _ c.look_up.ensures
+    c.in-Nothing.is
 
 pub eval_name_spec : {M : Type 1} → statement M
 eval_name_spec =
     tie.close
     (tie.spec
-    node-at-requires
-    look-up-requires
-    enum-known-i
-    bound-at-requires
-    enum_told
-    returns
-    returns-2)
+    node_at-node-requires
+    look_up-requires
+    enum_known-i
+    bound_at-requires
+    enum_told-1
+    returns-in-At
+    returns-in-Nothing)

@@ -6,33 +6,30 @@ use borrow.Author.Rules.{rules}
 use Rattle.leaves.proofs.eval_read.Statement.{statement}
 use Rattle.leaves.proofs.eval_read.Tie as tie
 
-node-at-requires : tie.Need-node-at-requires
-node-at-requires c κs = node_there (as_node c.before.before.requires.0)
+node_at-node-requires : tie.Need-node_at-node-requires
+node_at-node-requires c κs = node_there (as_node c.requires.0)
 
-get-target-requires : tie.Need-get-target-requires
-get-target-requires c κs =
-    let start = c.before.before.before in
-    (rw c.node_at.ensures (read_names start.requires.0), start.requires.1)
+get_target-requires : tie.Need-get_target-requires
+get_target-requires c κs =
+    (rw c.node_at-node.ensures (read_names c.requires.0), c.requires.1)
 
-enum-known-v : tie.Need-enum-known-v
-enum-known-v c = search rules
+enum_known-v : tie.Need-enum_known-v
+enum_known-v c = search rules
 
-enum-known-why : tie.Need-enum-known-why
-enum-known-why c = search rules
+enum_known-why : tie.Need-enum_known-why
+enum_known-why c = search rules
 
-returns : tie.Need-returns
-returns c =
-    let start = c.before.before.before.before.before.before.before in
-    target_given start.args.depth start.requires.1 start.requires.0 _ c.before.before.before.before.node_at.ensures _ (Is _)
-    c.before.before.before.get-target.ensures c.before.v.given.1
+returns-in-Is : tie.Need-returns-in-Is
+returns-in-Is c =
+    target_given c.args.depth c.requires.1 c.requires.0 _ c.node_at-node.ensures _ (Is _)
+    c.get_target.ensures c.in-Is.is
 
-returns-2 : tie.Need-returns-2
-returns-2 c =
-    let start = c.before.before.before.before.before.before.before in
-    target_given start.args.depth start.requires.1 start.requires.0 _ c.before.before.before.before.node_at.ensures _ (Not _ _)
-    c.before.before.before.get-target.ensures c.before.why.given.1
+returns-in-Not : tie.Need-returns-in-Not
+returns-in-Not c =
+    target_given c.args.depth c.requires.1 c.requires.0 _ c.node_at-node.ensures _ (Not _ _)
+    c.get_target.ensures c.in-Not.is
 
 pub eval_read_spec : {M : Type 1} → statement M
 eval_read_spec =
     tie.close
-    (tie.spec node-at-requires get-target-requires enum-known-v enum-known-why returns returns-2)
+    (tie.spec node_at-node-requires get_target-requires enum_known-v enum_known-why returns-in-Is returns-in-Not)

@@ -4,18 +4,16 @@ use Rattle.leaves.proofs.LeafLaws.{value_given}
 use Rattle.leaves.proofs.eval_value.Statement.{statement}
 use Rattle.leaves.proofs.eval_value.Tie as tie
 
-node-at-requires : tie.Need-node-at-requires
-node-at-requires c κs = node_there (as_node c.before.before.requires.0)
+node_at-node-requires : tie.Need-node_at-node-requires
+node_at-node-requires c κs = node_there (as_node c.requires.0)
 
-literal-value-requires : tie.Need-literal-value-requires
-literal-value-requires c κs =
-    let start = c.before.before.before in
-    (rw c.node_at.ensures (value_names start.requires.0), (node_there (as_node start.requires.0)).2)
+literal_value-requires : tie.Need-literal_value-requires
+literal_value-requires c κs =
+    (rw c.node_at-node.ensures (value_names c.requires.0), (node_there (as_node c.requires.0)).2)
 
 returns : tie.Need-returns
 returns c =
-    let start = c.before.before.before.before in
-    value_given start.args.depth start.requires.1 start.requires.0 _ c.before.node_at.ensures _ c.literal-value.ensures
+    value_given c.args.depth c.requires.1 c.requires.0 _ c.node_at-node.ensures _ c.literal_value.ensures
 
 pub eval_value_spec : {M : Type 1} → statement M
-eval_value_spec = tie.close (tie.spec node-at-requires literal-value-requires returns)
+eval_value_spec = tie.close (tie.spec node_at-node-requires literal_value-requires returns)

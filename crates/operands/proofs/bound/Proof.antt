@@ -2,11 +2,11 @@
 use Rattle.operands.proofs.bound.Statement.{statement}
 use Rattle.operands.proofs.bound.Tie as tie
 
-returns : tie.Need-returns
-returns c = rw c.if1.true
+returns-then-kept : tie.Need-returns-then-kept
+returns-then-kept c = rw c.if-kept.true
 
-returns-2 : tie.Need-returns-2
-returns-2 c = rw c.if1.false
+returns : tie.Need-returns
+returns c = rw c.if-kept.false
 
 pub bound_spec : {M : Type 1} → statement M
-bound_spec = tie.close (tie.spec returns returns-2)
+bound_spec = tie.close (tie.spec returns-then-kept returns)

@@ -6,23 +6,19 @@ use borrow.Author.Rules.{rules}
 use Rattle.operands.proofs.finish_let.Statement.{statement}
 use Rattle.operands.proofs.finish_let.Tie as tie
 
-enum-known-one : tie.Need-enum-known-one
-enum-known-one c = search rules
+enum_known-one : tie.Need-enum_known-one
+enum_known-one c = search rules
 
-returns : tie.Need-returns
-returns c =
-    let start = c.before.before.before in
-    after_none _ start.args.one refl c.match.keys2 start.requires.1
+returns-in_default : tie.Need-returns-in_default
+returns-in_default c =
+    after_none _ c.args.one refl c.in_default.in_default-own.keys2 c.requires.1
 
-node-at-requires : tie.Need-node-at-requires
-node-at-requires c κs = node_there c.before.before.before.before.before.requires.0
+node_at-node-requires : tie.Need-node_at-node-requires
+node_at-node-requires c κs = node_there c.requires.0
 
-returns-2 : tie.Need-returns-2
-returns-2 c =
-    let read = c.before.before in
-    let value = read.before.before in
-    let start = value.before.before.before.before in
-    after_value value.one.given.1 (let_holds _ _ _ _ read.node_at.ensures start.requires.1 c.if1.true)
+returns-then-node-eq0 : tie.Need-returns-then-node-eq0
+returns-then-node-eq0 c =
+    after_value c.in-Done.is (let_holds _ _ _ _ c.node_at-node.ensures c.requires.1 c.if-node-eq0.true)
 
 declare-requires : tie.Need-declare-requires
 declare-requires c κs = search rules
@@ -30,27 +26,23 @@ declare-requires c κs = search rules
 bound-requires : tie.Need-bound-requires
 bound-requires c κs = search rules
 
-same_length : tie.Need-same-length
-same_length c = search rules
+shape_of-words : tie.Need-shape_of-words
+shape_of-words c = search rules
 
-returns-3 : tie.Need-returns-3
-returns-3 c =
-    let call = c.before.before.before in
-    let bind = call.before.before.before in
-    let read = bind.before.before in
-    let value = read.before.before in
-    after_value value.one.given.1
-    (let_done _ _ _ _ read.node_at.ensures bind.if1.false call.declare.ensures c.bound.ensures)
+returns : tie.Need-returns
+returns c =
+    after_value c.in-Done.is
+    (let_done _ _ _ _ c.node_at-node.ensures c.if-node-eq0.false c.declare.ensures c.bound.ensures)
 
 pub finish_let_spec : {M : Type 1} → statement M
 finish_let_spec =
     tie.close
     (tie.spec
-    enum-known-one
-    returns
-    node-at-requires
-    returns-2
+    enum_known-one
+    returns-in_default
+    node_at-node-requires
+    returns-then-node-eq0
     declare-requires
     bound-requires
-    same_length
-    returns-3)
+    shape_of-words
+    returns)

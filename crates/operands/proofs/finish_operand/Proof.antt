@@ -4,23 +4,22 @@ use borrow.Author.Rules.{rules}
 use Rattle.operands.proofs.finish_operand.Statement.{statement}
 use Rattle.operands.proofs.finish_operand.Tie as tie
 
-enum-known-one : tie.Need-enum-known-one
-enum-known-one c = search rules
+enum_known-one : tie.Need-enum_known-one
+enum_known-one c = search rules
 
-use-operand-requires : tie.Need-use-operand-requires
-use-operand-requires c κs = search rules
+use_operand-requires : tie.Need-use_operand-requires
+use_operand-requires c κs = search rules
 
-same_length : tie.Need-same-length
-same_length c = search rules
+shape_of-words : tie.Need-shape_of-words
+shape_of-words c = search rules
 
-returns : tie.Need-returns
-returns c = after_value c.before.before.before.before.before.before.one.given.1 c.before.before.use-operand.ensures
+returns-in-Done : tie.Need-returns-in-Done
+returns-in-Done c = after_value c.in-Done.is c.use_operand.ensures
 
-returns-2 : tie.Need-returns-2
-returns-2 c =
-    let start = c.before.before.before in
-    after_none _ start.args.one (waiting_passes _ _) c.match.keys2 start.requires.1
+returns-in_default : tie.Need-returns-in_default
+returns-in_default c =
+    after_none _ c.args.one (waiting_passes _ _) c.in_default.in_default-own.keys2 c.requires.1
 
 pub finish_operand_spec : {M : Type 1} → statement M
 finish_operand_spec =
-    tie.close (tie.spec enum-known-one use-operand-requires same_length returns returns-2)
+    tie.close (tie.spec enum_known-one use_operand-requires shape_of-words returns-in-Done returns-in_default)

@@ -4,24 +4,24 @@ use Rattle.operands.proofs.OperandLaws.{no_operand}
 use Rattle.operands.proofs.operand_of.Statement.{statement}
 use Rattle.operands.proofs.operand_of.Tie as tie
 
-returns : tie.Need-returns
+returns-in-3 : tie.Need-returns-in-3
 unfolding kind_of kinds
-returns c = rw c.match.keys1
+returns-in-3 c = rw c.in-3.is
 
-returns-2 : tie.Need-returns-2
+returns-in-4 : tie.Need-returns-in-4
 unfolding kind_of kinds
-returns-2 c = rw c.match.keys2
+returns-in-4 c = rw c.in-4.is
 
-returns-3 : tie.Need-returns-3
+returns-in-5 : tie.Need-returns-in-5
 unfolding kind_of kinds
-returns-3 c = rw c.match.keys3
+returns-in-5 c = rw c.in-5.is
 
-returns-4 : tie.Need-returns-4
+returns-in-12 : tie.Need-returns-in-12
 unfolding kind_of kinds
-returns-4 c = rw c.match.keys4
+returns-in-12 c = rw c.in-12.is
 
-returns-5 : tie.Need-returns-5
-returns-5 c = no_operand c.before.args.node.kind c.before.args.node c.match.rest
+returns-in_default : tie.Need-returns-in_default
+returns-in_default c = no_operand c.args.node.kind c.args.node c.in_default.in_default-own.rest
 
 pub operand_of_spec : {M : Type 1} → statement M
-operand_of_spec = tie.close (tie.spec returns returns-2 returns-3 returns-4 returns-5)
+operand_of_spec = tie.close (tie.spec returns-in-3 returns-in-4 returns-in-5 returns-in-12 returns-in_default)

@@ -6,8 +6,8 @@ use borrow.Author.Rules.{rules}
 use Rattle.operands.proofs.use_operand.Statement.{statement}
 use Rattle.operands.proofs.use_operand.Tie as tie
 
-node-at-requires : tie.Need-node-at-requires
-node-at-requires c κs = node_there c.before.before.requires.0
+node_at-node-requires : tie.Need-node_at-node-requires
+node_at-node-requires c κs = node_there c.requires.0
 
 declare-requires : tie.Need-declare-requires
 declare-requires c κs = search rules
@@ -15,77 +15,65 @@ declare-requires c κs = search rules
 bound-requires : tie.Need-bound-requires
 bound-requires c κs = search rules
 
-set-target-requires : tie.Need-set-target-requires
-set-target-requires c κs =
-    let arm = c.before.before in
-    let start = arm.before.before.before.before in
-    (target_there start.requires.0 _ arm.before.node_at.ensures (inl arm.match.keys2), start.requires.1)
+set_target-requires : tie.Need-set_target-requires
+set_target-requires c κs =
+    (target_there c.requires.0 _ c.node_at-node.ensures (inl c.in-4.is), c.requires.1)
 
 written-requires : tie.Need-written-requires
 written-requires c κs = search rules
 
-assign-target-requires : tie.Need-assign-target-requires
-assign-target-requires c κs =
-    let arm = c.before.before in
-    let start = arm.before.before.before.before in
-    (target_there start.requires.0 _ arm.before.node_at.ensures (inr arm.match.keys3), start.requires.1)
+assign_target-requires : tie.Need-assign_target-requires
+assign_target-requires c κs =
+    (target_there c.requires.0 _ c.node_at-node.ensures (inr c.in-5.is), c.requires.1)
 
-written-requires-2 : tie.Need-written-requires-2
-written-requires-2 c κs = search rules
+written-requires-in-5 : tie.Need-written-requires-in-5
+written-requires-in-5 c κs = search rules
 
-same_length : tie.Need-same-length
-same_length c = search rules
+shape_of-words-in-3 : tie.Need-shape_of-words-in-3
+shape_of-words-in-3 c = search rules
 
-returns : tie.Need-returns
-returns c =
-    let call = c.before.before.before in
-    let arm = call.before.before.before in
-    decl_done _ _ _ _ arm.before.node_at.ensures arm.match.keys1 call.declare.ensures c.bound.ensures
+returns-in-3 : tie.Need-returns-in-3
+returns-in-3 c =
+    decl_done _ _ _ _ c.node_at-node.ensures c.in-3.is c.declare.ensures c.bound.ensures
 
-same-length-2 : tie.Need-same-length-2
-same-length-2 c = search rules
+shape_of-words-in-4 : tie.Need-shape_of-words-in-4
+shape_of-words-in-4 c = search rules
 
-returns-2 : tie.Need-returns-2
-returns-2 c =
-    let call = c.before.before.before in
-    let arm = call.before.before.before in
-    set-done _ _ _ _ arm.before.node_at.ensures arm.match.keys2 call.set-target.ensures c.written.ensures
+returns-in-4 : tie.Need-returns-in-4
+returns-in-4 c =
+    set-done _ _ _ _ c.node_at-node.ensures c.in-4.is c.set_target.ensures c.written.ensures
 
-same-length-3 : tie.Need-same-length-3
-same-length-3 c = search rules
+shape_of-words-in-5 : tie.Need-shape_of-words-in-5
+shape_of-words-in-5 c = search rules
 
-returns-3 : tie.Need-returns-3
-returns-3 c =
-    let call = c.before.before.before in
-    let arm = call.before.before.before in
-    assign_done _ _ _ _ arm.before.node_at.ensures arm.match.keys3 call.assign_target.ensures c.written2.ensures
+returns-in-5 : tie.Need-returns-in-5
+returns-in-5 c =
+    assign_done _ _ _ _ c.node_at-node.ensures c.in-5.is c.assign_target.ensures c.written-in-5.ensures
 
-returns-4 : tie.Need-returns-4
-returns-4 c =
-    let start = c.before.before.before.before in
-    break_done _ _ _ _ c.before.node_at.ensures start.requires.1 c.match.keys4 start.requires.0
+returns-in-12 : tie.Need-returns-in-12
+returns-in-12 c =
+    break_done _ _ _ _ c.node_at-node.ensures c.requires.1 c.in-12.is c.requires.0
 
-returns-5 : tie.Need-returns-5
-returns-5 c =
-    let start = c.before.before.before.before in
-    idle_done _ _ _ _ c.before.node_at.ensures start.requires.1 c.match.rest
+returns-in_default : tie.Need-returns-in_default
+returns-in_default c =
+    idle_done _ _ _ _ c.node_at-node.ensures c.requires.1 c.in_default.in_default-own.rest
 
 pub use_operand_spec : {M : Type 1} → statement M
 use_operand_spec =
     tie.close
     (tie.spec
-    node-at-requires
+    node_at-node-requires
     declare-requires
     bound-requires
-    set-target-requires
+    set_target-requires
     written-requires
-    assign-target-requires
-    written-requires-2
-    same_length
-    returns
-    same-length-2
-    returns-2
-    same-length-3
-    returns-3
-    returns-4
-    returns-5)
+    assign_target-requires
+    written-requires-in-5
+    shape_of-words-in-3
+    returns-in-3
+    shape_of-words-in-4
+    returns-in-4
+    shape_of-words-in-5
+    returns-in-5
+    returns-in-12
+    returns-in_default)

@@ -3,17 +3,17 @@ use borrow.Author.Rules.{rules}
 use Rattle.operands.proofs.written.Statement.{statement}
 use Rattle.operands.proofs.written.Tie as tie
 
-enum_told : tie.Need-enum-told
-enum_told c = search rules
+enum_told-1 : tie.Need-enum_told-1
+enum_told-1 c = search rules
 
-enum-known-x : tie.Need-enum-known-x
-enum-known-x c = search rules
+enum_known-x : tie.Need-enum_known-x
+enum_known-x c = search rules
 
-returns : tie.Need-returns
-returns c = rw c.enum_told.given.1
+returns-in-Done : tie.Need-returns-in-Done
+returns-in-Done c = rw c.in-Done.is
 
-returns-2 : tie.Need-returns-2
-returns-2 c = rw c.before.x.given.1
+returns-in-Refused : tie.Need-returns-in-Refused
+returns-in-Refused c = rw c.in-Refused.is
 
 pub written_spec : {M : Type 1} → statement M
-written_spec = tie.close (tie.spec enum_told enum-known-x returns returns-2)
+written_spec = tie.close (tie.spec enum_told-1 enum_known-x returns-in-Done returns-in-Refused)

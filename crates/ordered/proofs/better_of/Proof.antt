@@ -6,35 +6,30 @@ use borrow.Author.Rules.{rules}
 use Rattle.ordered.proofs.better_of.Statement.{statement}
 use Rattle.ordered.proofs.better_of.Tie as tie
 
-is-owned-requires : tie.Need-is-owned-requires
-is-owned-requires c κs = search rules
+is_owned-requires : tie.Need-is_owned-requires
+is_owned-requires c κs = search rules
+
+returns-then-not-is_owned : tie.Need-returns-then-not-is_owned
+returns-then-not-is_owned c =
+    better_other _ _ _ _ _ _ _ _ c.requires.2 (sym (not-true c.is_owned.result c.if-not-is_owned.true-raw) ∙ c.is_owned.ensures)
+
+is_after-requires : tie.Need-is_after-requires
+is_after-requires c κs = search rules
+
+returns-then-not-is_after : tie.Need-returns-then-not-is_after
+returns-then-not-is_after c =
+    better_before _ _ _ _ _ _ _ _ c.requires.2 (sym (not-false c.is_owned.result c.if-not-is_owned.false-raw) ∙ c.is_owned.ensures)
+    (rw (not-true c.is_after.result c.if-not-is_after.true-raw) at c.is_after.ensures)
+
+first_of-requires : tie.Need-first_of-requires
+first_of-requires c κs = search rules
 
 returns : tie.Need-returns
 returns c =
-    let own = c.before in
-    better_other _ _ _ _ _ _ _ _ own.before.before.before.requires.2 (sym (not-true own.is-owned.result c.if1.true) ∙ own.is-owned.ensures)
-
-is-after-requires : tie.Need-is-after-requires
-is-after-requires c κs = search rules
-
-returns-2 : tie.Need-returns-2
-returns-2 c =
-    let after = c.before in
-    let own = after.before.before in
-    better_before _ _ _ _ _ _ _ _ own.before.before.before.requires.2 (sym (not-false own.is-owned.result after.before.if1.false) ∙ own.is-owned.ensures)
-    (rw (not-true after.is-after.result c.if2.true) at after.is-after.ensures)
-
-first-of-requires : tie.Need-first-of-requires
-first-of-requires c κs = search rules
-
-returns-3 : tie.Need-returns-3
-returns-3 c =
-    let after = c.before.before in
-    let own = after.before.before in
-    better_first _ _ _ _ _ _ _ _ own.before.before.before.requires.2 _ (sym (not-false own.is-owned.result after.before.if1.false) ∙ own.is-owned.ensures)
-    (rw (not-false after.is-after.result c.before.if2.false) at after.is-after.ensures) c.first_of.ensures
+    better_first _ _ _ _ _ _ _ _ c.requires.2 _ (sym (not-false c.is_owned.result c.if-not-is_owned.false-raw) ∙ c.is_owned.ensures)
+    (rw (not-false c.is_after.result c.if-not-is_after.false-raw) at c.is_after.ensures) c.first_of.ensures
 
 pub better_of_spec : {M : Type 1} → statement M
 better_of_spec =
     tie.close
-    (tie.spec is-owned-requires returns is-after-requires returns-2 first-of-requires returns-3)
+    (tie.spec is_owned-requires returns-then-not-is_owned is_after-requires returns-then-not-is_after first_of-requires returns)

@@ -4,55 +4,55 @@ use borrow.Author.Rules.{rules}
 use Rattle.ordered.proofs.key_at.Statement.{statement}
 use Rattle.ordered.proofs.key_at.Tie as tie
 
-element-copy-out-if1 : tie.Need-element-copy-out-if1
-element-copy-out-if1 c = search rules
+bounds-run-5 : tie.Need-bounds-run-5
+bounds-run-5 c = search rules
 
-mul-if2 : tie.Need-overflow-mul-if2
-mul-if2 c = search rules
+overflow_mul-i : tie.Need-overflow_mul-i
+overflow_mul-i c = search rules
 
-add-if2 : tie.Need-overflow-add-if2
-add-if2 c = search rules
+overflow_add-i : tie.Need-overflow_add-i
+overflow_add-i c = search rules
 
-mul-if2-2 : tie.Need-overflow-mul-if2-2
-mul-if2-2 c = search rules
+offset_bounds-words-i : tie.Need-offset_bounds-words-i
+offset_bounds-words-i c = search rules
 
-shared-slice-read-if2 : tie.Need-shared-slice-read-if2
-shared-slice-read-if2 c = search rules
+bounds-words-i : tie.Need-bounds-words-i
+bounds-words-i c = search rules
 
-mul-result : tie.Need-overflow-mul-result
-mul-result c = search rules
+overflow_mul-result : tie.Need-overflow_mul-result
+overflow_mul-result c = search rules
 
-add-result : tie.Need-overflow-add-result
-add-result c = search rules
+overflow_add-result : tie.Need-overflow_add-result
+overflow_add-result c = search rules
 
-mul-result-2 : tie.Need-overflow-mul-result-2
-mul-result-2 c = search rules
+offset_bounds-words-i-then-words-i-ge2 : tie.Need-offset_bounds-words-i-then-words-i-ge2
+offset_bounds-words-i-then-words-i-ge2 c = search rules
 
-shared-slice-read-result : tie.Need-shared-slice-read-result
-shared-slice-read-result c = search rules
+bounds-words-i-then-words-i-ge2 : tie.Need-bounds-words-i-then-words-i-ge2
+bounds-words-i-then-words-i-ge2 c = search rules
 
-returns : tie.Need-returns
-returns c = key_entry _ _ _ c.before.before.before.if1.true c.before.if2.true
+returns-then-words-i-ge2 : tie.Need-returns-then-words-i-ge2
+returns-then-words-i-ge2 c = key_entry _ _ _ c.if-i-run.true c.if-words-i-ge2.true
 
-returns-2 : tie.Need-returns-2
-returns-2 c = key_other _ _ _ c.before.before.if1.true c.if2.false
+returns-else-words-i-ge2 : tie.Need-returns-else-words-i-ge2
+returns-else-words-i-ge2 c = key_other _ _ _ c.if-i-run.true c.if-words-i-ge2.false
 
-returns-3 : tie.Need-returns-3
-returns-3 c = key_past _ _ _ c.if1.false
+returns-else-i-run : tie.Need-returns-else-i-run
+returns-else-i-run c = key_past _ _ _ c.if-i-run.false
 
 pub key_at_spec : {M : Type 1} → statement M
 key_at_spec =
     tie.close
     (tie.spec
-    element-copy-out-if1
-    mul-if2
-    add-if2
-    mul-if2-2
-    shared-slice-read-if2
-    mul-result
-    add-result
-    mul-result-2
-    shared-slice-read-result
-    returns
-    returns-2
-    returns-3)
+    bounds-run-5
+    overflow_mul-i
+    overflow_add-i
+    offset_bounds-words-i
+    bounds-words-i
+    overflow_mul-result
+    overflow_add-result
+    offset_bounds-words-i-then-words-i-ge2
+    bounds-words-i-then-words-i-ge2
+    returns-then-words-i-ge2
+    returns-else-words-i-ge2
+    returns-else-i-run)

@@ -6,45 +6,45 @@ use borrow.Author.Rules.{rules}
 use Rattle.ordered.proofs.next_entry.Statement.{statement}
 use Rattle.ordered.proofs.next_entry.Tie as tie
 
-abbrev invariant-loop : tie.invariant-loop
-invariant-loop image h words run owner last best₀ i₀ best i = (i ≤ cells_of run) × NextFrom image h run words owner last i best
+abbrev invariant-loop-i : tie.invariant-loop-i
+invariant-loop-i image h words run owner last best₀ i₀ best i = (i ≤ cells_of run) × NextFrom image h run words owner last i best
 
-abbrev decreases-loop : tie.decreases-loop
-decreases-loop image h words run owner last best₀ i₀ best i = i
+abbrev decreases-loop-i : tie.decreases-loop-i
+decreases-loop-i image h words run owner last best₀ i₀ best i = i
 
-element-copy-out-i : tie.Need-element-copy-out-i invariant-loop decreases-loop
-element-copy-out-i c = search rules
+bounds-run-5 : tie.Need-bounds-run-5 invariant-loop-i decreases-loop-i
+bounds-run-5 c = search rules
 
-loop-holds : tie.Need-loop-init invariant-loop decreases-loop
-loop-holds c = (search rules, next_start _ _ _ _ _ _)
+loop-i-init : tie.Need-loop-i-init invariant-loop-i decreases-loop-i
+loop-i-init c = (search rules, next_start _ _ _ _ _ _)
 
-sub-i : tie.Need-overflow-sub-i invariant-loop decreases-loop
-sub-i c = search rules
+overflow_sub-i : tie.Need-overflow_sub-i invariant-loop-i decreases-loop-i
+overflow_sub-i c = search rules
 
-better-of-requires : tie.Need-better-of-requires invariant-loop decreases-loop
-better-of-requires c κs = search rules
+better_of-best-requires : tie.Need-better_of-best-requires invariant-loop-i decreases-loop-i
+better_of-best-requires c κs = search rules
 
-loop-less : tie.Need-loop-smaller invariant-loop decreases-loop
-loop-less c = search rules
+loop-i-smaller : tie.Need-loop-i-smaller invariant-loop-i decreases-loop-i
+loop-i-smaller c = search rules
 
-loop-again : tie.Need-loop-preserved invariant-loop decreases-loop
-loop-again c =
-    let l = c.before.before.loop in
-    (search rules, next_turn _ _ _ _ _ _ _ _ _ c.before.loop-test.true l.invariant.0 l.invariant.1 c.better-of.ensures)
+loop-i-preserved : tie.Need-loop-i-preserved invariant-loop-i decreases-loop-i
+loop-i-preserved c =
+    let l = c.loop-i in
+    (search rules, next_turn _ _ _ _ _ _ _ _ _ c.loop-i-test.true l.invariant.0 l.invariant.1 c.better_of-best.ensures)
 
-returns : tie.Need-returns invariant-loop decreases-loop
-returns c = next_done _ _ _ _ _ _ _ _ c.loop-test.false c.before.loop.invariant.1
+returns : tie.Need-returns invariant-loop-i decreases-loop-i
+returns c = next_done _ _ _ _ _ _ _ _ c.loop-i-test.false c.loop-i.invariant.1
 
 pub next_entry_spec : {M : Type 1} → statement M
 next_entry_spec =
     tie.close
     (tie.spec
-    invariant-loop
-    decreases-loop
-    element-copy-out-i
-    loop-holds
-    sub-i
-    better-of-requires
-    loop-less
-    loop-again
+    invariant-loop-i
+    decreases-loop-i
+    bounds-run-5
+    loop-i-init
+    overflow_sub-i
+    better_of-best-requires
+    loop-i-smaller
+    loop-i-preserved
     returns)

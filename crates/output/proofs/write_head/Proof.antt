@@ -9,235 +9,226 @@ use Rattle.output.proofs.Texts.{bool_bit_lem, number_puts, head_puts, text_head,
 use borrow.Author.Rules.{rules}
 use Rattle.output.proofs.write_head.Statement.{statement}
 use Rattle.output.proofs.write_head.Tie as tie
-use Rattle.output.proofs.write_head.Reads as reads
-use Rattle.output.proofs.write_head.Lts as lts
-use Rattle.boxes.proofs.count_in.Reads as count-in-reads
-use Rattle.numbers.proofs.word.float_to_word.Reads as float-to-word-reads
-use Rattle.numbers.proofs.word.int_to_word.Reads as int-to-word-reads
-use Rattle.ordered.proofs.count_entries.Reads as count-entries-reads
-use Rattle.output.proofs.write_number.Reads as write-number-reads
-use Rattle.output.proofs.write_string.Reads as write-string-reads
-use Rattle.pouring.proofs.put.Reads as put_reads
 
-element-copy-out-made : tie.Need-element-copy-out-made
-element-copy-out-made c = search rules
+bounds-run-6 : tie.Need-bounds-run-6
+bounds-run-6 c = search rules
 
-enum_told : tie.Need-enum-told
-enum_told c = search rules
+enum_told-1 : tie.Need-enum_told-1
+enum_told-1 c = search rules
 
 put-requires : tie.Need-put-requires
 put-requires c κs = search rules
 
-enum-known-v : tie.Need-enum-known-v
-enum-known-v c = search rules
+enum_known-v : tie.Need-enum_known-v
+enum_known-v c = search rules
 
-cast-write-number : tie.Need-overflow-cast-write-number
-cast-write-number c = search rules
+overflow_cast-b : tie.Need-overflow_cast-b
+overflow_cast-b c = search rules
 
-write-number-requires : tie.Need-write-number-requires
-write-number-requires c κs = search rules
+write_number-requires : tie.Need-write_number-requires
+write_number-requires c κs = search rules
 
-enum-known-v-2 : tie.Need-enum-known-v-2
-enum-known-v-2 c = search rules
+enum_known-v-in-Unsigned-1 : tie.Need-enum_known-v-in-Unsigned-1
+enum_known-v-in-Unsigned-1 c = search rules
 
-write-number-requires-2 : tie.Need-write-number-requires-2
-write-number-requires-2 c κs = search rules
+write_number-requires-in-Unsigned : tie.Need-write_number-requires-in-Unsigned
+write_number-requires-in-Unsigned c κs = search rules
 
-enum-known-v-3 : tie.Need-enum-known-v-3
-enum-known-v-3 c = search rules
+enum_known-v-in-Signed-1 : tie.Need-enum_known-v-in-Signed-1
+enum_known-v-in-Signed-1 c = search rules
 
-int-to-word-requires : tie.Need-int-to-word-requires
-int-to-word-requires c κs = search rules
+int_to_word-requires : tie.Need-int_to_word-requires
+int_to_word-requires c κs = search rules
 
-write-number-requires-3 : tie.Need-write-number-requires-3
-write-number-requires-3 c κs = search rules
+write_number-requires-in-Signed : tie.Need-write_number-requires-in-Signed
+write_number-requires-in-Signed c κs = search rules
 
-enum-known-v-4 : tie.Need-enum-known-v-4
-enum-known-v-4 c = search rules
+enum_known-v-in-Float-1 : tie.Need-enum_known-v-in-Float-1
+enum_known-v-in-Float-1 c = search rules
 
-float-to-word-requires : tie.Need-float-to-word-requires
-float-to-word-requires c κs = search rules
+float_to_word-requires : tie.Need-float_to_word-requires
+float_to_word-requires c κs = search rules
 
-write-number-requires-4 : tie.Need-write-number-requires-4
-write-number-requires-4 c κs = search rules
+write_number-requires-in-Float : tie.Need-write_number-requires-in-Float
+write_number-requires-in-Float c κs = search rules
 
-enum-known-v-5 : tie.Need-enum-known-v-5
-enum-known-v-5 c = search rules
+enum_known-v-in-Char-1 : tie.Need-enum_known-v-in-Char-1
+enum_known-v-in-Char-1 c = search rules
 
-cast-write-number-2 : tie.Need-overflow-cast-write-number-2
-cast-write-number-2 c = search rules
+overflow_cast-c : tie.Need-overflow_cast-c
+overflow_cast-c c = search rules
 
-write-number-requires-5 : tie.Need-write-number-requires-5
-write-number-requires-5 c κs = search rules
+write_number-requires-in-Char : tie.Need-write_number-requires-in-Char
+write_number-requires-in-Char c κs = search rules
 
-enum-known-v-6 : tie.Need-enum-known-v-6
-enum-known-v-6 c = search rules
+enum_known-v-in-Text-1 : tie.Need-enum_known-v-in-Text-1
+enum_known-v-in-Text-1 c = search rules
 
-write-string-requires : tie.Need-write-string-requires
-write-string-requires c κs = search rules
+write_string-requires : tie.Need-write_string-requires
+write_string-requires c κs = search rules
 
-enum-known-v-7 : tie.Need-enum-known-v-7
-enum-known-v-7 c = search rules
+enum_known-v-in-Bytes-1 : tie.Need-enum_known-v-in-Bytes-1
+enum_known-v-in-Bytes-1 c = search rules
 
-write-string-requires-2 : tie.Need-write-string-requires-2
-write-string-requires-2 c κs = search rules
+write_string-requires-in-Bytes : tie.Need-write_string-requires-in-Bytes
+write_string-requires-in-Bytes c κs = search rules
 
-enum-known-v-8 : tie.Need-enum-known-v-8
-enum-known-v-8 c = search rules
+enum_known-v-in-Vec-1 : tie.Need-enum_known-v-in-Vec-1
+enum_known-v-in-Vec-1 c = search rules
 
-cast-count-in : tie.Need-overflow-cast-count-in
-cast-count-in c = search rules
+overflow_cast-c-in-Vec : tie.Need-overflow_cast-c-in-Vec
+overflow_cast-c-in-Vec c = search rules
 
-count-in-requires : tie.Need-count-in-requires
-count-in-requires c κs = search rules
+count_in-requires : tie.Need-count_in-requires
+count_in-requires c κs = search rules
 
-write-number-requires-6 : tie.Need-write-number-requires-6
-write-number-requires-6 c κs = search rules
+write_number-requires-in-Vec : tie.Need-write_number-requires-in-Vec
+write_number-requires-in-Vec c κs = search rules
 
-enum-known-v-9 : tie.Need-enum-known-v-9
-enum-known-v-9 c = search rules
+enum_known-v-in-Tuple-1 : tie.Need-enum_known-v-in-Tuple-1
+enum_known-v-in-Tuple-1 c = search rules
 
-cast-count-in-2 : tie.Need-overflow-cast-count-in-2
-cast-count-in-2 c = search rules
+overflow_cast-c-in-Tuple : tie.Need-overflow_cast-c-in-Tuple
+overflow_cast-c-in-Tuple c = search rules
 
-count-in-requires-2 : tie.Need-count-in-requires-2
-count-in-requires-2 c κs = search rules
+count_in-requires-in-Tuple : tie.Need-count_in-requires-in-Tuple
+count_in-requires-in-Tuple c κs = search rules
 
-write-number-requires-7 : tie.Need-write-number-requires-7
-write-number-requires-7 c κs = search rules
+write_number-requires-in-Tuple : tie.Need-write_number-requires-in-Tuple
+write_number-requires-in-Tuple c κs = search rules
 
-enum-known-v-10 : tie.Need-enum-known-v-10
-enum-known-v-10 c = search rules
+enum_known-v-in-Object-1 : tie.Need-enum_known-v-in-Object-1
+enum_known-v-in-Object-1 c = search rules
 
-count-entries-requires : tie.Need-count-entries-requires
-count-entries-requires c κs = search rules
+count_entries-requires : tie.Need-count_entries-requires
+count_entries-requires c κs = search rules
 
-write-number-requires-8 : tie.Need-write-number-requires-8
-write-number-requires-8 c κs = search rules
+write_number-requires-in-Object : tie.Need-write_number-requires-in-Object
+write_number-requires-in-Object c κs = search rules
 
-same_length : tie.Need-same-length
-same_length c = search rules
+shape_of-out-in-Unit : tie.Need-shape_of-out-in-Unit
+shape_of-out-in-Unit c = search rules
 
-returns : tie.Need-returns
-returns c = head_puts c.before.before.before.before.before.before.before.before.before.before.before.args.image.now c.before.before.before.before.before.before.before.before.before.before.before.args.h (store_of c.before.before.before.before.before.before.before.before.before.before.before.args.run.now c.before.before.before.before.before.before.before.before.before.before.before.args.words.now c.before.before.before.before.before.before.before.before.before.before.before.args.bytes.now) c.before.before.before.before.before.before.before.before.before.before.before.args.v _ c.before.before.before.before.enum_told.given.1 c.before.before.put.ensures
+returns-in-Unit : tie.Need-returns-in-Unit
+returns-in-Unit c = head_puts c.args.image.now c.args.h (store_of c.args.run.now c.args.words.now c.args.bytes.now) c.args.v _ c.in-Unit.is c.put.ensures
 
-same-length-2 : tie.Need-same-length-2
-same-length-2 c = search rules
+shape_of-out-in-Bool : tie.Need-shape_of-out-in-Bool
+shape_of-out-in-Bool c = search rules
 
-returns-2 : tie.Need-returns-2
-returns-2 c = head_puts c.before.before.before.before.before.before.before.before.before.before.before.before.args.image.now c.before.before.before.before.before.before.before.before.before.before.before.before.args.h (store_of c.before.before.before.before.before.before.before.before.before.before.before.before.args.run.now c.before.before.before.before.before.before.before.before.before.before.before.before.args.words.now c.before.before.before.before.before.before.before.before.before.before.before.before.args.bytes.now) c.before.before.before.before.before.before.before.before.before.before.before.before.args.v _ c.before.before.before.before.before.v.given.1 (number_puts (bool_bit_lem c.before.before.before.before.before.v.given.0.0) c.before.before.write-number.ensures)
+returns-in-Bool : tie.Need-returns-in-Bool
+returns-in-Bool c = head_puts c.args.image.now c.args.h (store_of c.args.run.now c.args.words.now c.args.bytes.now) c.args.v _ c.in-Bool.is (number_puts (bool_bit_lem c.in-Bool.b) c.write_number.ensures)
 
-same-length-3 : tie.Need-same-length-3
-same-length-3 c = search rules
+shape_of-out-in-Unsigned : tie.Need-shape_of-out-in-Unsigned
+shape_of-out-in-Unsigned c = search rules
 
-returns-3 : tie.Need-returns-3
-returns-3 c = head_puts c.before.before.before.before.before.before.before.before.before.before.before.before.args.image.now c.before.before.before.before.before.before.before.before.before.before.before.before.args.h (store_of c.before.before.before.before.before.before.before.before.before.before.before.before.args.run.now c.before.before.before.before.before.before.before.before.before.before.before.before.args.words.now c.before.before.before.before.before.before.before.before.before.before.before.before.args.bytes.now) c.before.before.before.before.before.before.before.before.before.before.before.before.args.v _ c.before.before.before.before.before.v2.given.1 c.before.before.write-number2.ensures
+returns-in-Unsigned : tie.Need-returns-in-Unsigned
+returns-in-Unsigned c = head_puts c.args.image.now c.args.h (store_of c.args.run.now c.args.words.now c.args.bytes.now) c.args.v _ c.in-Unsigned.is c.write_number-in-Unsigned.ensures
 
-same-length-4 : tie.Need-same-length-4
-same-length-4 c = search rules
+shape_of-out-in-Signed : tie.Need-shape_of-out-in-Signed
+shape_of-out-in-Signed c = search rules
 
-returns-4 : tie.Need-returns-4
-returns-4 c =
-    let f : SFits w64 c.before.before.before.before.before.before.v3.given.0.0 = search rules in
-    head_puts c.before.before.before.before.before.before.before.before.before.before.before.before.before.args.image.now c.before.before.before.before.before.before.before.before.before.before.before.before.before.args.h (store_of c.before.before.before.before.before.before.before.before.before.before.before.before.before.args.run.now c.before.before.before.before.before.before.before.before.before.before.before.before.before.args.words.now c.before.before.before.before.before.before.before.before.before.before.before.before.before.args.bytes.now) c.before.before.before.before.before.before.before.before.before.before.before.before.before.args.v _ c.before.before.before.before.before.before.v3.given.1 (number_puts (c.before.before.before.int-to-word.ensures ∙ ap word_of (to_z-of_z f)) c.before.before.write-number3.ensures)
+returns-in-Signed : tie.Need-returns-in-Signed
+returns-in-Signed c =
+    let f : SFits w64 c.in-Signed.x = search rules in
+    head_puts c.args.image.now c.args.h (store_of c.args.run.now c.args.words.now c.args.bytes.now) c.args.v _ c.in-Signed.is (number_puts (c.int_to_word.ensures ∙ ap word_of (to_z-of_z f)) c.write_number-in-Signed.ensures)
 
-same-length-5 : tie.Need-same-length-5
-same-length-5 c = search rules
+shape_of-out-in-Float : tie.Need-shape_of-out-in-Float
+shape_of-out-in-Float c = search rules
 
-returns-5 : tie.Need-returns-5
-returns-5 c = head_puts c.before.before.before.before.before.before.before.before.before.before.before.before.before.args.image.now c.before.before.before.before.before.before.before.before.before.before.before.before.before.args.h (store_of c.before.before.before.before.before.before.before.before.before.before.before.before.before.args.run.now c.before.before.before.before.before.before.before.before.before.before.before.before.before.args.words.now c.before.before.before.before.before.before.before.before.before.before.before.before.before.args.bytes.now) c.before.before.before.before.before.before.before.before.before.before.before.before.before.args.v _ c.before.before.before.before.before.before.v4.given.1 (number_puts c.before.before.before.float-to-word.ensures c.before.before.write-number4.ensures)
+returns-in-Float : tie.Need-returns-in-Float
+returns-in-Float c = head_puts c.args.image.now c.args.h (store_of c.args.run.now c.args.words.now c.args.bytes.now) c.args.v _ c.in-Float.is (number_puts c.float_to_word.ensures c.write_number-in-Float.ensures)
 
-same-length-6 : tie.Need-same-length-6
-same-length-6 c = search rules
+shape_of-out-in-Char : tie.Need-shape_of-out-in-Char
+shape_of-out-in-Char c = search rules
 
-returns-6 : tie.Need-returns-6
-returns-6 c = head_puts c.before.before.before.before.before.before.before.before.before.before.before.before.args.image.now c.before.before.before.before.before.before.before.before.before.before.before.before.args.h (store_of c.before.before.before.before.before.before.before.before.before.before.before.before.args.run.now c.before.before.before.before.before.before.before.before.before.before.before.before.args.words.now c.before.before.before.before.before.before.before.before.before.before.before.before.args.bytes.now) c.before.before.before.before.before.before.before.before.before.before.before.before.args.v _ c.before.before.before.before.before.v5.given.1 c.before.before.write-number5.ensures
+returns-in-Char : tie.Need-returns-in-Char
+returns-in-Char c = head_puts c.args.image.now c.args.h (store_of c.args.run.now c.args.words.now c.args.bytes.now) c.args.v _ c.in-Char.is c.write_number-in-Char.ensures
 
-same-length-7 : tie.Need-same-length-7
-same-length-7 c = search rules
+shape_of-out-in-Text : tie.Need-shape_of-out-in-Text
+shape_of-out-in-Text c = search rules
 
-returns-7 : tie.Need-returns-7
-returns-7 c = text_head c.before.before.before.before.before.before.before.before.before.before.before.before.args.image.now c.before.before.before.before.before.before.before.before.before.before.before.before.args.h c.before.before.before.before.before.before.before.before.before.before.before.before.args.run.now c.before.before.before.before.before.before.before.before.before.before.before.before.args.words.now c.before.before.before.before.before.before.before.before.before.before.before.before.args.bytes.now c.before.before.before.before.before.before.before.before.before.before.before.before.args.v c.before.before.before.before.before.v6.given.1 c.before.before.write-string.ensures
+returns-in-Text : tie.Need-returns-in-Text
+returns-in-Text c = text_head c.args.image.now c.args.h c.args.run.now c.args.words.now c.args.bytes.now c.args.v c.in-Text.is c.write_string.ensures
 
-same-length-8 : tie.Need-same-length-8
-same-length-8 c = search rules
+shape_of-out-in-Bytes : tie.Need-shape_of-out-in-Bytes
+shape_of-out-in-Bytes c = search rules
 
-returns-8 : tie.Need-returns-8
-returns-8 c = bytes_head c.before.before.before.before.before.before.before.before.before.before.before.before.args.image.now c.before.before.before.before.before.before.before.before.before.before.before.before.args.h c.before.before.before.before.before.before.before.before.before.before.before.before.args.run.now c.before.before.before.before.before.before.before.before.before.before.before.before.args.words.now c.before.before.before.before.before.before.before.before.before.before.before.before.args.bytes.now c.before.before.before.before.before.before.before.before.before.before.before.before.args.v c.before.before.before.before.before.v7.given.1 c.before.before.write-string2.ensures
+returns-in-Bytes : tie.Need-returns-in-Bytes
+returns-in-Bytes c = bytes_head c.args.image.now c.args.h c.args.run.now c.args.words.now c.args.bytes.now c.args.v c.in-Bytes.is c.write_string-in-Bytes.ensures
 
-same-length-9 : tie.Need-same-length-9
-same-length-9 c = search rules
+shape_of-out-in-Vec : tie.Need-shape_of-out-in-Vec
+shape_of-out-in-Vec c = search rules
 
-returns-9 : tie.Need-returns-9
-returns-9 c = head_puts c.before.before.before.before.before.before.before.before.before.before.before.before.before.args.image.now c.before.before.before.before.before.before.before.before.before.before.before.before.before.args.h (store_of c.before.before.before.before.before.before.before.before.before.before.before.before.before.args.run.now c.before.before.before.before.before.before.before.before.before.before.before.before.before.args.words.now c.before.before.before.before.before.before.before.before.before.before.before.before.before.args.bytes.now) c.before.before.before.before.before.before.before.before.before.before.before.before.before.args.v _ c.before.before.before.before.before.before.v8.given.1 (number_puts (c.before.before.before.count-in.ensures.is c.before.before.before.before.before.before.before.before.before.before.before.before.before.args.bytes.now) c.before.before.write-number6.ensures)
+returns-in-Vec : tie.Need-returns-in-Vec
+returns-in-Vec c = head_puts c.args.image.now c.args.h (store_of c.args.run.now c.args.words.now c.args.bytes.now) c.args.v _ c.in-Vec.is (number_puts (c.count_in.ensures.is c.args.bytes.now) c.write_number-in-Vec.ensures)
 
-same-length-10 : tie.Need-same-length-10
-same-length-10 c = search rules
+shape_of-out-in-Tuple : tie.Need-shape_of-out-in-Tuple
+shape_of-out-in-Tuple c = search rules
 
-returns-10 : tie.Need-returns-10
-returns-10 c = head_puts c.before.before.before.before.before.before.before.before.before.before.before.before.before.args.image.now c.before.before.before.before.before.before.before.before.before.before.before.before.before.args.h (store_of c.before.before.before.before.before.before.before.before.before.before.before.before.before.args.run.now c.before.before.before.before.before.before.before.before.before.before.before.before.before.args.words.now c.before.before.before.before.before.before.before.before.before.before.before.before.before.args.bytes.now) c.before.before.before.before.before.before.before.before.before.before.before.before.before.args.v _ c.before.before.before.before.before.before.v9.given.1 (number_puts (c.before.before.before.count-in2.ensures.is c.before.before.before.before.before.before.before.before.before.before.before.before.before.args.bytes.now) c.before.before.write-number7.ensures)
+returns-in-Tuple : tie.Need-returns-in-Tuple
+returns-in-Tuple c = head_puts c.args.image.now c.args.h (store_of c.args.run.now c.args.words.now c.args.bytes.now) c.args.v _ c.in-Tuple.is (number_puts (c.count_in-in-Tuple.ensures.is c.args.bytes.now) c.write_number-in-Tuple.ensures)
 
-same-length-11 : tie.Need-same-length-11
-same-length-11 c = search rules
+shape_of-out-in-Object : tie.Need-shape_of-out-in-Object
+shape_of-out-in-Object c = search rules
 
-returns-11 : tie.Need-returns-11
-returns-11 c = head_puts c.before.before.before.before.before.before.before.before.before.before.before.before.before.args.image.now c.before.before.before.before.before.before.before.before.before.before.before.before.before.args.h (store_of c.before.before.before.before.before.before.before.before.before.before.before.before.before.args.run.now c.before.before.before.before.before.before.before.before.before.before.before.before.before.args.words.now c.before.before.before.before.before.before.before.before.before.before.before.before.before.args.bytes.now) c.before.before.before.before.before.before.before.before.before.before.before.before.before.args.v _ c.before.before.before.before.before.before.v10.given.1 (number_puts (c.before.before.before.count_entries.ensures.is c.before.before.before.before.before.before.before.before.before.before.before.before.before.args.image.now c.before.before.before.before.before.before.before.before.before.before.before.before.before.args.h c.before.before.before.before.before.before.before.before.before.before.before.before.before.args.bytes.now) c.before.before.write-number8.ensures)
+returns-in-Object : tie.Need-returns-in-Object
+returns-in-Object c = head_puts c.args.image.now c.args.h (store_of c.args.run.now c.args.words.now c.args.bytes.now) c.args.v _ c.in-Object.is (number_puts (c.count_entries.ensures.is c.args.image.now c.args.h c.args.bytes.now) c.write_number-in-Object.ensures)
 
 pub write_head_spec : {M : Type 1} → statement M
 write_head_spec =
     tie.close
     (tie.spec
-    element-copy-out-made
-    enum_told
+    bounds-run-6
+    enum_told-1
     put-requires
-    enum-known-v
-    cast-write-number
-    write-number-requires
-    enum-known-v-2
-    write-number-requires-2
-    enum-known-v-3
-    int-to-word-requires
-    write-number-requires-3
-    enum-known-v-4
-    float-to-word-requires
-    write-number-requires-4
-    enum-known-v-5
-    cast-write-number-2
-    write-number-requires-5
-    enum-known-v-6
-    write-string-requires
-    enum-known-v-7
-    write-string-requires-2
-    enum-known-v-8
-    cast-count-in
-    count-in-requires
-    write-number-requires-6
-    enum-known-v-9
-    cast-count-in-2
-    count-in-requires-2
-    write-number-requires-7
-    enum-known-v-10
-    count-entries-requires
-    write-number-requires-8
-    same_length
-    returns
-    same-length-2
-    returns-2
-    same-length-3
-    returns-3
-    same-length-4
-    returns-4
-    same-length-5
-    returns-5
-    same-length-6
-    returns-6
-    same-length-7
-    returns-7
-    same-length-8
-    returns-8
-    same-length-9
-    returns-9
-    same-length-10
-    returns-10
-    same-length-11
-    returns-11)
+    enum_known-v
+    overflow_cast-b
+    write_number-requires
+    enum_known-v-in-Unsigned-1
+    write_number-requires-in-Unsigned
+    enum_known-v-in-Signed-1
+    int_to_word-requires
+    write_number-requires-in-Signed
+    enum_known-v-in-Float-1
+    float_to_word-requires
+    write_number-requires-in-Float
+    enum_known-v-in-Char-1
+    overflow_cast-c
+    write_number-requires-in-Char
+    enum_known-v-in-Text-1
+    write_string-requires
+    enum_known-v-in-Bytes-1
+    write_string-requires-in-Bytes
+    enum_known-v-in-Vec-1
+    overflow_cast-c-in-Vec
+    count_in-requires
+    write_number-requires-in-Vec
+    enum_known-v-in-Tuple-1
+    overflow_cast-c-in-Tuple
+    count_in-requires-in-Tuple
+    write_number-requires-in-Tuple
+    enum_known-v-in-Object-1
+    count_entries-requires
+    write_number-requires-in-Object
+    shape_of-out-in-Unit
+    returns-in-Unit
+    shape_of-out-in-Bool
+    returns-in-Bool
+    shape_of-out-in-Unsigned
+    returns-in-Unsigned
+    shape_of-out-in-Signed
+    returns-in-Signed
+    shape_of-out-in-Float
+    returns-in-Float
+    shape_of-out-in-Char
+    returns-in-Char
+    shape_of-out-in-Text
+    returns-in-Text
+    shape_of-out-in-Bytes
+    returns-in-Bytes
+    shape_of-out-in-Vec
+    returns-in-Vec
+    shape_of-out-in-Tuple
+    returns-in-Tuple
+    shape_of-out-in-Object
+    returns-in-Object)

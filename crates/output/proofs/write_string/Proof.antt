@@ -3,40 +3,36 @@ use Rattle.output.proofs.Steps.{puts_on, puts_stuck, puts_place}
 use borrow.Author.Rules.{rules}
 use Rattle.output.proofs.write_string.Statement.{statement}
 use Rattle.output.proofs.write_string.Tie as tie
-use Rattle.output.proofs.write_string.Reads as reads
-use Rattle.output.proofs.write_string.Lts as lts
-use Rattle.output.proofs.write_text.Reads as write-text-reads
-use Rattle.pouring.proofs.put.Reads as put_reads
 
-put-requires : tie.Need-put-requires
-put-requires c κs = search rules
+put-spot-requires : tie.Need-put-spot-requires
+put-spot-requires c κs = search rules
 
-enum-known-spot : tie.Need-enum-known-spot
-enum-known-spot c = search rules
+enum_known-spot : tie.Need-enum_known-spot
+enum_known-spot c = search rules
 
-same_length : tie.Need-same-length
-same_length c = search rules
+shape_of-out-in_default : tie.Need-shape_of-out-in_default
+shape_of-out-in_default c = search rules
+
+returns-in_default : tie.Need-returns-in_default
+returns-in_default c = puts_stuck _ c.in_default.in_default-own.keys2 c.put-spot.ensures
+
+write_text-requires : tie.Need-write_text-requires
+write_text-requires c κs = (c.requires.0, c.requires.1, puts_place c.in-At.is c.requires.2 c.put-spot.ensures)
+
+shape_of-out : tie.Need-shape_of-out
+shape_of-out c = search rules
 
 returns : tie.Need-returns
-returns c = puts_stuck _ c.match.keys2 c.before.before.before.put.ensures
-
-write-text-requires : tie.Need-write-text-requires
-write-text-requires c κs = (c.before.before.before.before.before.before.before.before.before.before.before.requires.0, c.before.before.before.before.before.before.before.before.before.before.before.requires.1, puts_place c.before.before.spot.given.1 c.before.before.before.before.before.before.before.before.before.before.before.requires.2 c.before.before.before.before.before.before.put.ensures)
-
-same-length-2 : tie.Need-same-length-2
-same-length-2 c = search rules
-
-returns-2 : tie.Need-returns-2
-returns-2 c = puts_on c.before.before.before.before.before.spot.given.1 c.before.before.before.before.before.before.before.before.before.put.ensures c.before.before.write-text.ensures
+returns c = puts_on c.in-At.is c.put-spot.ensures c.write_text.ensures
 
 pub write_string_spec : {M : Type 1} → statement M
 write_string_spec =
     tie.close
     (tie.spec
-    put-requires
-    enum-known-spot
-    same_length
-    returns
-    write-text-requires
-    same-length-2
-    returns-2)
+    put-spot-requires
+    enum_known-spot
+    shape_of-out-in_default
+    returns-in_default
+    write_text-requires
+    shape_of-out
+    returns)

@@ -4,20 +4,20 @@ use Rattle.printing.proofs.Pages.{room, no_room}
 use Rattle.printing.proofs.byte.Statement.{statement}
 use Rattle.printing.proofs.byte.Tie as tie
 
-slice-write-out : tie.Need-slice-write-out
-slice-write-out c = search rules
+bounds-out-at : tie.Need-bounds-out-at
+bounds-out-at c = search rules
 
-add-result : tie.Need-overflow-add-result
-add-result c = search rules
+overflow_add-result : tie.Need-overflow_add-result
+overflow_add-result c = search rules
 
-same_length : tie.Need-same-length
-same_length c = search rules
+shape_of-out-then-at-out : tie.Need-shape_of-out-then-at-out
+shape_of-out-then-at-out c = search rules
+
+returns-then-at-out : tie.Need-returns-then-at-out
+returns-then-at-out c = search (rules, room)
 
 returns : tie.Need-returns
-returns c = search (rules, room)
-
-returns-2 : tie.Need-returns-2
-returns-2 c = search (rules, no_room)
+returns c = search (rules, no_room)
 
 pub byte_spec : {M : Type 1} → statement M
-byte_spec = tie.close (tie.spec slice-write-out add-result same_length returns returns-2)
+byte_spec = tie.close (tie.spec bounds-out-at overflow_add-result shape_of-out-then-at-out returns-then-at-out returns)

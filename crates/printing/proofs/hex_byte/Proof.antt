@@ -4,20 +4,20 @@ use Rattle.printing.proofs.Pages.{hex_one}
 use Rattle.printing.proofs.hex_byte.Statement.{statement}
 use Rattle.printing.proofs.hex_byte.Tie as tie
 
-hex-digit-requires : tie.Need-hex-digit-requires
-hex-digit-requires c κs = search rules
+hex_digit-requires : tie.Need-hex_digit-requires
+hex_digit-requires c κs = search rules
+
+byte-next-requires : tie.Need-byte-next-requires
+byte-next-requires c κs = search rules
+
+hex_digit-requires-2 : tie.Need-hex_digit-requires-2
+hex_digit-requires-2 c κs = search rules
 
 byte-requires : tie.Need-byte-requires
 byte-requires c κs = search rules
 
-hex-digit-requires-2 : tie.Need-hex-digit-requires-2
-hex-digit-requires-2 c κs = search rules
-
-byte-requires-2 : tie.Need-byte-requires-2
-byte-requires-2 c κs = search rules
-
-same_length : tie.Need-same-length
-same_length c = search rules
+shape_of-out : tie.Need-shape_of-out
+shape_of-out c = search rules
 
 returns : tie.Need-returns
 returns c = search (rules, hex_one)
@@ -26,9 +26,9 @@ pub hex_byte_spec : {M : Type 1} → statement M
 hex_byte_spec =
     tie.close
     (tie.spec
-    hex-digit-requires
+    hex_digit-requires
+    byte-next-requires
+    hex_digit-requires-2
     byte-requires
-    hex-digit-requires-2
-    byte-requires-2
-    same_length
+    shape_of-out
     returns)

@@ -4,17 +4,17 @@ use borrow.Author.Tests.{lt-ltb, le-ltb}
 use Rattle.printing.proofs.hex_digit.Statement.{statement}
 use Rattle.printing.proofs.hex_digit.Tie as tie
 
-add-result : tie.Need-overflow-add-result
-add-result c = search rules
+overflow_add-result : tie.Need-overflow_add-result
+overflow_add-result c = search rules
 
-add-result-2 : tie.Need-overflow-add-result-2
-add-result-2 c = search rules
+overflow_add-result-else-d-lt10 : tie.Need-overflow_add-result-else-d-lt10
+overflow_add-result-else-d-lt10 c = search rules
 
-returns : tie.Need-returns
-returns c = simp (lt-ltb _ _ c.if1.true)
+returns-then-d-lt10 : tie.Need-returns-then-d-lt10
+returns-then-d-lt10 c = simp (lt-ltb _ _ c.if-d-lt10.true)
 
-returns-2 : tie.Need-returns-2
-returns-2 c = simp (le-ltb _ _ c.if1.false)
+returns-else-d-lt10 : tie.Need-returns-else-d-lt10
+returns-else-d-lt10 c = simp (le-ltb _ _ c.if-d-lt10.false)
 
 pub hex_digit_spec : {M : Type 1} → statement M
-hex_digit_spec = tie.close (tie.spec add-result add-result-2 returns returns-2)
+hex_digit_spec = tie.close (tie.spec overflow_add-result overflow_add-result-else-d-lt10 returns-then-d-lt10 returns-else-d-lt10)

@@ -4,29 +4,29 @@ use Rattle.printing.specs.Page.{letter_of}
 use Rattle.printing.proofs.letter_of.Statement.{statement}
 use Rattle.printing.proofs.letter_of.Tie as tie
 
+returns-then-b-quote : tie.Need-returns-then-b-quote
+unfolding letter_of
+returns-then-b-quote c = simp (eq-eqb _ _ c.if-b-quote.true)
+
+returns-then-b-eq92 : tie.Need-returns-then-b-eq92
+unfolding letter_of
+returns-then-b-eq92 c = simp (ne_eqb _ _ c.if-b-quote.false, eq-eqb _ _ c.if-b-eq92.true)
+
+returns-then-b-eq10 : tie.Need-returns-then-b-eq10
+unfolding letter_of
+returns-then-b-eq10 c = simp (ne_eqb _ _ c.if-b-quote.false, ne_eqb _ _ c.if-b-eq92.false, eq-eqb _ _ c.if-b-eq10.true)
+
+returns-then-b-eq13 : tie.Need-returns-then-b-eq13
+unfolding letter_of
+returns-then-b-eq13 c = simp (ne_eqb _ _ c.if-b-quote.false, ne_eqb _ _ c.if-b-eq92.false, ne_eqb _ _ c.if-b-eq10.false, eq-eqb _ _ c.if-b-eq13.true)
+
+returns-then-b-eq9 : tie.Need-returns-then-b-eq9
+unfolding letter_of
+returns-then-b-eq9 c = simp (ne_eqb _ _ c.if-b-quote.false, ne_eqb _ _ c.if-b-eq92.false, ne_eqb _ _ c.if-b-eq10.false, ne_eqb _ _ c.if-b-eq13.false, eq-eqb _ _ c.if-b-eq9.true)
+
 returns : tie.Need-returns
 unfolding letter_of
-returns c = simp (eq-eqb _ _ c.if1.true)
-
-returns-2 : tie.Need-returns-2
-unfolding letter_of
-returns-2 c = simp (ne_eqb _ _ c.before.if1.false, eq-eqb _ _ c.if2.true)
-
-returns-3 : tie.Need-returns-3
-unfolding letter_of
-returns-3 c = simp (ne_eqb _ _ c.before.before.if1.false, ne_eqb _ _ c.before.if2.false, eq-eqb _ _ c.if3.true)
-
-returns-4 : tie.Need-returns-4
-unfolding letter_of
-returns-4 c = simp (ne_eqb _ _ c.before.before.before.if1.false, ne_eqb _ _ c.before.before.if2.false, ne_eqb _ _ c.before.if3.false, eq-eqb _ _ c.if4.true)
-
-returns-5 : tie.Need-returns-5
-unfolding letter_of
-returns-5 c = simp (ne_eqb _ _ c.before.before.before.before.if1.false, ne_eqb _ _ c.before.before.before.if2.false, ne_eqb _ _ c.before.before.if3.false, ne_eqb _ _ c.before.if4.false, eq-eqb _ _ c.if5.true)
-
-returns-6 : tie.Need-returns-6
-unfolding letter_of
-returns-6 c = simp (ne_eqb _ _ c.before.before.before.before.if1.false, ne_eqb _ _ c.before.before.before.if2.false, ne_eqb _ _ c.before.before.if3.false, ne_eqb _ _ c.before.if4.false, ne_eqb _ _ c.if5.false)
+returns c = simp (ne_eqb _ _ c.if-b-quote.false, ne_eqb _ _ c.if-b-eq92.false, ne_eqb _ _ c.if-b-eq10.false, ne_eqb _ _ c.if-b-eq13.false, ne_eqb _ _ c.if-b-eq9.false)
 
 pub letter_of_spec : {M : Type 1} → statement M
-letter_of_spec = tie.close (tie.spec returns returns-2 returns-3 returns-4 returns-5 returns-6)
+letter_of_spec = tie.close (tie.spec returns-then-b-quote returns-then-b-eq92 returns-then-b-eq10 returns-then-b-eq13 returns-then-b-eq9 returns)

@@ -6,43 +6,43 @@ use borrow.Author.Rules.{rules}
 use Rattle.targets.proofs.assign_binding.Statement.{statement}
 use Rattle.targets.proofs.assign_binding.Tie as tie
 
-bound-at-requires : tie.Need-bound-at-requires
-bound-at-requires c κs = search rules
+bound_at-requires : tie.Need-bound_at-requires
+bound_at-requires c κs = search rules
 
-assign-value-requires : tie.Need-assign-value-requires
-assign-value-requires c κs = search rules
+assign_value-requires : tie.Need-assign_value-requires
+assign_value-requires c κs = search rules
 
-enum-known-new : tie.Need-enum-known-new
-enum-known-new c = search rules
+enum_known-new : tie.Need-enum_known-new
+enum_known-new c = search rules
 
 rebind-requires : tie.Need-rebind-requires
 rebind-requires c κs = search rules
 
-enum-known-why : tie.Need-enum-known-why
-enum-known-why c = search rules
+enum_known-why : tie.Need-enum_known-why
+enum_known-why c = search rules
 
-same_length : tie.Need-same-length
-same_length c = search rules
+shape_of-words-in-Is : tie.Need-shape_of-words-in-Is
+shape_of-words-in-Is c = search rules
 
-returns : tie.Need-returns
-returns c = assign_done _ _ c.before.before.before.before.before.before.before.before.before.before.before.args.n c.before.before.before.before.before.before.before.before.before.before.before.args.op c.before.before.before.before.before.before.before.before.before.before.before.args.v (λ σ. bound_at σ c.before.before.before.before.before.before.before.before.before.before.before.args.i) (λ σ. rebound σ c.before.before.before.before.before.before.before.before.before.before.before.args.i) _ _ _ c.before.before.before.before.before.before.before.before.bound_at.ensures.is (sym c.before.before.before.before.before.new.given.1 ∙ c.before.before.before.before.before.before.before.assign-value.ensures) c.before.before.rebind.ensures
+returns-in-Is : tie.Need-returns-in-Is
+returns-in-Is c = assign_done _ _ c.args.n c.args.op c.args.v (λ σ. bound_at σ c.args.i) (λ σ. rebound σ c.args.i) _ _ _ c.bound_at.ensures.is (sym c.in-Is.is ∙ c.assign_value.ensures) c.rebind.ensures
 
-same-length-2 : tie.Need-same-length-2
-same-length-2 c = search rules
+shape_of-words-in-Not : tie.Need-shape_of-words-in-Not
+shape_of-words-in-Not c = search rules
 
-returns-2 : tie.Need-returns-2
-returns-2 c = assign_refused _ _ c.before.before.before.before.before.before.before.args.n c.before.before.before.before.before.before.before.args.op c.before.before.before.before.before.before.before.args.v (λ σ. bound_at σ c.before.before.before.before.before.before.before.args.i) (λ σ. rebound σ c.before.before.before.before.before.before.before.args.i) _ _ _ c.before.before.before.before.before.before.before.requires c.before.before.before.before.bound_at.ensures.is (sym c.before.why.given.1 ∙ c.before.before.before.assign-value.ensures)
+returns-in-Not : tie.Need-returns-in-Not
+returns-in-Not c = assign_refused _ _ c.args.n c.args.op c.args.v (λ σ. bound_at σ c.args.i) (λ σ. rebound σ c.args.i) _ _ _ c.requires c.bound_at.ensures.is (sym c.in-Not.is ∙ c.assign_value.ensures)
 
 pub assign_binding_spec : {M : Type 1} → statement M
 assign_binding_spec =
     tie.close
     (tie.spec
-    bound-at-requires
-    assign-value-requires
-    enum-known-new
+    bound_at-requires
+    assign_value-requires
+    enum_known-new
     rebind-requires
-    enum-known-why
-    same_length
-    returns
-    same-length-2
-    returns-2)
+    enum_known-why
+    shape_of-words-in-Is
+    returns-in-Is
+    shape_of-words-in-Not
+    returns-in-Not)

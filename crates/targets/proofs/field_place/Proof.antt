@@ -6,39 +6,39 @@ use borrow.Author.Rules.{rules}
 use Rattle.targets.proofs.field_place.Statement.{statement}
 use Rattle.targets.proofs.field_place.Tie as tie
 
-enum-known-v : tie.Need-enum-known-v
-enum-known-v c = search rules
+enum_known-v : tie.Need-enum_known-v
+enum_known-v c = search rules
 
-returns : tie.Need-returns
-returns c = no_field _ _ _ c.before.before.before.args.h c.before.before.before.args.at c.before.before.before.args.l c.before.before.before.args.v (no_object c.before.before.before.args.v c.match.keys2)
+returns-in_default : tie.Need-returns-in_default
+returns-in_default c = no_field _ _ _ c.args.h c.args.at c.args.l c.args.v (no_object c.args.v c.in_default.in_default-own.keys2)
 
-key-of-requires : tie.Need-key-of-requires
-key-of-requires c κs = search rules
+key_of-requires : tie.Need-key_of-requires
+key_of-requires c κs = search rules
 
-entry-at-requires : tie.Need-entry-at-requires
-entry-at-requires c κs = search rules
+entry_at-requires : tie.Need-entry_at-requires
+entry_at-requires c κs = search rules
 
-enum-known-i : tie.Need-enum-known-i
-enum-known-i c = search rules
+enum_known-i : tie.Need-enum_known-i
+enum_known-i c = search rules
 
-enum_told : tie.Need-enum-told
-enum_told c = search rules
+enum_told-1 : tie.Need-enum_told-1
+enum_told-1 c = search rules
 
-returns-2 : tie.Need-returns-2
-returns-2 c = field_place_lem _ _ _ c.before.before.before.before.before.before.before.before.before.before.args.h c.before.before.before.before.before.before.before.before.before.before.args.at c.before.before.before.before.before.before.before.before.before.before.args.l _ _ _ (At _) c.before.before.before.before.before.before.before.before.before.before.args.v c.before.before.before.before.before.before.v.given.1 c.before.before.before.before.key_of.ensures c.before.before.before.entry_at.ensures c.before.i.given.1
+returns-in-At : tie.Need-returns-in-At
+returns-in-At c = field_place_lem _ _ _ c.args.h c.args.at c.args.l _ _ _ (At _) c.args.v c.in-Object.is c.key_of.ensures c.entry_at.ensures c.in-At.is
 
-returns-3 : tie.Need-returns-3
-returns-3 c = field_place_lem _ _ _ c.before.before.before.before.before.before.before.before.before.args.h c.before.before.before.before.before.before.before.before.before.args.at c.before.before.before.before.before.before.before.before.before.args.l _ _ _ Nothing c.before.before.before.before.before.before.before.before.before.args.v c.before.before.before.before.before.v.given.1 c.before.before.before.key_of.ensures c.before.before.entry_at.ensures c.enum_told.given.1
+returns-in-Nothing : tie.Need-returns-in-Nothing
+returns-in-Nothing c = field_place_lem _ _ _ c.args.h c.args.at c.args.l _ _ _ Nothing c.args.v c.in-Object.is c.key_of.ensures c.entry_at.ensures c.in-Nothing.is
 
 pub field_place_spec : {M : Type 1} → statement M
 field_place_spec =
     tie.close
     (tie.spec
-    enum-known-v
-    returns
-    key-of-requires
-    entry-at-requires
-    enum-known-i
-    enum_told
-    returns-2
-    returns-3)
+    enum_known-v
+    returns-in_default
+    key_of-requires
+    entry_at-requires
+    enum_known-i
+    enum_told-1
+    returns-in-At
+    returns-in-Nothing)

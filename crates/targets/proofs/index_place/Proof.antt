@@ -7,35 +7,35 @@ use borrow.Author.Rules.{rules}
 use Rattle.targets.proofs.index_place.Statement.{statement}
 use Rattle.targets.proofs.index_place.Tie as tie
 
-enum-known-v : tie.Need-enum-known-v
-enum-known-v c = search rules
+enum_known-v : tie.Need-enum_known-v
+enum_known-v c = search rules
 
-item-place-requires : tie.Need-item-place-requires
-item-place-requires c κs = search rules
+item_place-requires : tie.Need-item_place-requires
+item_place-requires c κs = search rules
 
-enum-known-v-2 : tie.Need-enum-known-v-2
-enum-known-v-2 c = search rules
+enum_known-v-in-Tuple-1 : tie.Need-enum_known-v-in-Tuple-1
+enum_known-v-in-Tuple-1 c = search rules
 
-item-place-requires-2 : tie.Need-item-place-requires-2
-item-place-requires-2 c κs = search rules
+item_place-requires-in-Tuple : tie.Need-item_place-requires-in-Tuple
+item_place-requires-in-Tuple c κs = search rules
 
-returns : tie.Need-returns
-returns c = index_place_lem _ _ c.before.before.before.before.before.args.at _ c.before.before.before.before.before.args.index c.before.before.before.before.before.args.v _ (ap as_items c.before.before.v.given.1) c.item_place.ensures
+returns-in-Vec : tie.Need-returns-in-Vec
+returns-in-Vec c = index_place_lem _ _ c.args.at _ c.args.index c.args.v _ (ap as_items c.in-Vec.is) c.item_place.ensures
 
-returns-2 : tie.Need-returns-2
-returns-2 c = index_place_lem _ _ c.before.before.before.before.before.args.at _ c.before.before.before.before.before.args.index c.before.before.before.before.before.args.v _ (ap as_items c.before.before.v2.given.1) c.item-place2.ensures
+returns-in-Tuple : tie.Need-returns-in-Tuple
+returns-in-Tuple c = index_place_lem _ _ c.args.at _ c.args.index c.args.v _ (ap as_items c.in-Tuple.is) c.item_place-in-Tuple.ensures
 
-returns-3 : tie.Need-returns-3
-returns-3 c = no_index _ _ c.before.before.args.at c.before.before.args.index c.before.before.args.v (no_items c.before.before.args.v c.match.keys3)
+returns-in_default : tie.Need-returns-in_default
+returns-in_default c = no_index _ _ c.args.at c.args.index c.args.v (no_items c.args.v c.in_default.in_default-own.keys3)
 
 pub index_place_spec : {M : Type 1} → statement M
 index_place_spec =
     tie.close
     (tie.spec
-    enum-known-v
-    item-place-requires
-    enum-known-v-2
-    item-place-requires-2
-    returns
-    returns-2
-    returns-3)
+    enum_known-v
+    item_place-requires
+    enum_known-v-in-Tuple-1
+    item_place-requires-in-Tuple
+    returns-in-Vec
+    returns-in-Tuple
+    returns-in_default)

@@ -5,20 +5,20 @@ use borrow.Author.Rules.{rules}
 use Rattle.targets.proofs.item_place.Statement.{statement}
 use Rattle.targets.proofs.item_place.Tie as tie
 
-item-at-requires : tie.Need-item-at-requires
-item-at-requires c κs = search rules
+item_at-requires : tie.Need-item_at-requires
+item_at-requires c κs = search rules
 
-enum-known-i : tie.Need-enum-known-i
-enum-known-i c = search rules
+enum_known-i : tie.Need-enum_known-i
+enum_known-i c = search rules
 
-enum_told : tie.Need-enum-told
-enum_told c = search rules
+enum_told-1 : tie.Need-enum_told-1
+enum_told-1 c = search rules
 
-returns : tie.Need-returns
-returns c = item_place _ _ c.before.before.before.before.before.args.at c.before.before.before.before.before.args.owner c.before.before.before.before.before.args.index _ (At _) c.before.before.before.item-at.ensures c.before.i.given.1
+returns-in-At : tie.Need-returns-in-At
+returns-in-At c = item_place _ _ c.args.at c.args.owner c.args.index _ (At _) c.item_at.ensures c.in-At.is
 
-returns-2 : tie.Need-returns-2
-returns-2 c = item_place _ _ c.before.before.before.before.args.at c.before.before.before.before.args.owner c.before.before.before.before.args.index _ Nothing c.before.before.item-at.ensures c.enum_told.given.1
+returns-in-Nothing : tie.Need-returns-in-Nothing
+returns-in-Nothing c = item_place _ _ c.args.at c.args.owner c.args.index _ Nothing c.item_at.ensures c.in-Nothing.is
 
 pub item_place_spec : {M : Type 1} → statement M
-item_place_spec = tie.close (tie.spec item-at-requires enum-known-i enum_told returns returns-2)
+item_place_spec = tie.close (tie.spec item_at-requires enum_known-i enum_told-1 returns-in-At returns-in-Nothing)

@@ -5,20 +5,20 @@ use borrow.Author.Rules.{rules}
 use Rattle.targets.proofs.name_place.Statement.{statement}
 use Rattle.targets.proofs.name_place.Tie as tie
 
-look-up-requires : tie.Need-look-up-requires
-look-up-requires c κs = search rules
+look_up-requires : tie.Need-look_up-requires
+look_up-requires c κs = search rules
 
-enum-known-i : tie.Need-enum-known-i
-enum-known-i c = search rules
+enum_known-i : tie.Need-enum_known-i
+enum_known-i c = search rules
 
-enum_told : tie.Need-enum-told
-enum_told c = search rules
+enum_told-1 : tie.Need-enum_told-1
+enum_told-1 c = search rules
 
-returns : tie.Need-returns
-returns c = name_place_lem _ _ c.before.before.before.before.before.args.at c.before.before.before.before.before.args.name _ (At _) c.before.before.before.look_up.ensures c.before.i.given.1
+returns-in-At : tie.Need-returns-in-At
+returns-in-At c = name_place_lem _ _ c.args.at c.args.name _ (At _) c.look_up.ensures c.in-At.is
 
-returns-2 : tie.Need-returns-2
-returns-2 c = name_place_lem _ _ c.before.before.before.before.args.at c.before.before.before.before.args.name _ Nothing c.before.before.look_up.ensures c.enum_told.given.1
+returns-in-Nothing : tie.Need-returns-in-Nothing
+returns-in-Nothing c = name_place_lem _ _ c.args.at c.args.name _ Nothing c.look_up.ensures c.in-Nothing.is
 
 pub name_place_spec : {M : Type 1} → statement M
-name_place_spec = tie.close (tie.spec look-up-requires enum-known-i enum_told returns returns-2)
+name_place_spec = tie.close (tie.spec look_up-requires enum_known-i enum_told-1 returns-in-At returns-in-Nothing)

@@ -5,47 +5,47 @@ use borrow.Author.Rules.{rules}
 use Rattle.targets.proofs.read_at.Statement.{statement}
 use Rattle.targets.proofs.read_at.Tie as tie
 
-enum-known-place : tie.Need-enum-known-place
-enum-known-place c = search rules
+enum_known-place : tie.Need-enum_known-place
+enum_known-place c = search rules
 
-bound-at-requires : tie.Need-bound-at-requires
-bound-at-requires c κs = search rules
+bound_at-requires : tie.Need-bound_at-requires
+bound_at-requires c κs = search rules
 
-enum-known-place-2 : tie.Need-enum-known-place-2
-enum-known-place-2 c = search rules
+enum_known-place-in-Cell-1 : tie.Need-enum_known-place-in-Cell-1
+enum_known-place-in-Cell-1 c = search rules
 
-cell-at-requires : tie.Need-cell-at-requires
-cell-at-requires c κs = search rules
+cell_at-requires : tie.Need-cell_at-requires
+cell_at-requires c κs = search rules
 
-enum_told : tie.Need-enum-told
-enum_told c = search rules
+enum_told-1 : tie.Need-enum_told-1
+enum_told-1 c = search rules
 
-enum-known-place-3 : tie.Need-enum-known-place-3
-enum-known-place-3 c = search rules
+enum_known-place-in-Nowhere-1 : tie.Need-enum_known-place-in-Nowhere-1
+enum_known-place-in-Nowhere-1 c = search rules
 
-returns : tie.Need-returns
-returns c = read_by _ _ c.before.before.before.before.before.args.at _ c.before.before.before.before.before.args.place _ c.before.before.place.given.1 (read_binding _ _ c.before.before.before.before.before.args.at _ _ c.bound_at.ensures)
+returns-in-Binding : tie.Need-returns-in-Binding
+returns-in-Binding c = read_by _ _ c.args.at _ c.args.place _ c.in-Binding.is (read_binding _ _ c.args.at _ _ c.bound_at.ensures)
 
-returns-2 : tie.Need-returns-2
-returns-2 c = read_by _ _ c.before.before.before.before.before.args.at _ c.before.before.before.before.before.args.place _ c.before.before.place2.given.1 (read_cell _ _ c.before.before.before.before.before.args.at _ _ c.Cell-at.ensures)
+returns-in-Cell : tie.Need-returns-in-Cell
+returns-in-Cell c = read_by _ _ c.args.at _ c.args.place _ c.in-Cell.is (read_cell _ _ c.args.at _ _ c.cell_at.ensures)
 
-returns-3 : tie.Need-returns-3
-returns-3 c = read_by _ _ c.before.before.before.args.at _ c.before.before.before.args.place _ c.enum_told.given.1 (record { is = λ bytes. refl })
+returns-in-Absent : tie.Need-returns-in-Absent
+returns-in-Absent c = read_by _ _ c.args.at _ c.args.place _ c.in-Absent.is (record { is = λ bytes. refl })
 
-returns-4 : tie.Need-returns-4
-returns-4 c = read_by _ _ c.before.before.before.before.args.at _ c.before.before.before.before.args.place _ c.before.place3.given.1 (record { is = λ bytes. refl })
+returns-in-Nowhere : tie.Need-returns-in-Nowhere
+returns-in-Nowhere c = read_by _ _ c.args.at _ c.args.place _ c.in-Nowhere.is (record { is = λ bytes. refl })
 
 pub read_at_spec : {M : Type 1} → statement M
 read_at_spec =
     tie.close
     (tie.spec
-    enum-known-place
-    bound-at-requires
-    enum-known-place-2
-    cell-at-requires
-    enum_told
-    enum-known-place-3
-    returns
-    returns-2
-    returns-3
-    returns-4)
+    enum_known-place
+    bound_at-requires
+    enum_known-place-in-Cell-1
+    cell_at-requires
+    enum_told-1
+    enum_known-place-in-Nowhere-1
+    returns-in-Binding
+    returns-in-Cell
+    returns-in-Absent
+    returns-in-Nowhere)

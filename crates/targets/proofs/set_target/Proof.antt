@@ -6,73 +6,73 @@ use borrow.Author.Rules.{rules}
 use Rattle.targets.proofs.set_target.Statement.{statement}
 use Rattle.targets.proofs.set_target.Tie as tie
 
-target-place-requires : tie.Need-target-place-requires
-target-place-requires c κs = search rules
+target_place-requires : tie.Need-target_place-requires
+target_place-requires c κs = search rules
 
-enum-known-i : tie.Need-enum-known-i
-enum-known-i c = search rules
+enum_known-i : tie.Need-enum_known-i
+enum_known-i c = search rules
 
 rebind-requires : tie.Need-rebind-requires
 rebind-requires c κs = search rules
 
-enum-known-i-2 : tie.Need-enum-known-i-2
-enum-known-i-2 c = search rules
+enum_known-i-in-Cell-1 : tie.Need-enum_known-i-in-Cell-1
+enum_known-i-in-Cell-1 c = search rules
 
-store-cell-requires : tie.Need-store-cell-requires
-store-cell-requires c κs = search rules
+store_cell-requires : tie.Need-store_cell-requires
+store_cell-requires c κs = search rules
 
-enum-known-owner : tie.Need-enum-known-owner
-enum-known-owner c = search rules
+enum_known-owner : tie.Need-enum_known-owner
+enum_known-owner c = search rules
 
-set-field-requires : tie.Need-set-field-requires
-set-field-requires c κs =
-    let p = rw c.before.before.before.owner.given.1 at c.before.before.before.before.before.target-place.ensures in
-    (c.before.before.before.before.before.before.before.before.before.before.requires.0, absent_field _ _ _ _ _ _ p, c.before.before.before.before.before.before.before.before.before.before.requires.1)
+set_field-requires : tie.Need-set_field-requires
+set_field-requires c κs =
+    let p = rw c.in-Absent.is at c.target_place.ensures in
+    (c.requires.0, absent_field _ _ _ _ _ _ p, c.requires.1)
 
-enum-known-why : tie.Need-enum-known-why
-enum-known-why c = search rules
+enum_known-why : tie.Need-enum_known-why
+enum_known-why c = search rules
 
-same_length : tie.Need-same-length
-same_length c = search rules
+shape_of-words-in-Binding : tie.Need-shape_of-words-in-Binding
+shape_of-words-in-Binding c = search rules
 
-returns : tie.Need-returns
-returns c = set_by _ _ _ c.before.before.before.before.before.before.before.before.before.before.before.before.before.args.h c.before.before.before.before.before.before.before.before.before.before.before.before.before.args.t c.before.before.before.before.before.before.before.before.before.before.before.before.before.args.v _ _ _ _ c.before.before.before.before.before.before.before.before.target-place.ensures (rw c.before.before.before.before.before.before.i.given.1 (wrote _ _ (λ σ. rebound σ _ c.before.before.before.before.before.before.before.before.before.before.before.before.before.args.v) _ _ _ (λ σ. refl) c.before.before.rebind.ensures))
+returns-in-Binding : tie.Need-returns-in-Binding
+returns-in-Binding c = set_by _ _ _ c.args.h c.args.t c.args.v _ _ _ _ c.target_place.ensures (rw c.in-Binding.is (wrote _ _ (λ σ. rebound σ _ c.args.v) _ _ _ (λ σ. refl) c.rebind.ensures))
 
-same-length-2 : tie.Need-same-length-2
-same-length-2 c = search rules
+shape_of-words-in-Cell : tie.Need-shape_of-words-in-Cell
+shape_of-words-in-Cell c = search rules
 
-returns-2 : tie.Need-returns-2
-returns-2 c = set_by _ _ _ c.before.before.before.before.before.before.before.before.before.before.before.before.before.args.h c.before.before.before.before.before.before.before.before.before.before.before.before.before.args.t c.before.before.before.before.before.before.before.before.before.before.before.before.before.args.v _ _ _ _ c.before.before.before.before.before.before.before.before.target-place.ensures (rw c.before.before.before.before.before.before.i2.given.1 (wrote _ _ (λ σ. stored_at σ _ c.before.before.before.before.before.before.before.before.before.before.before.before.before.args.v) _ _ _ (λ σ. refl) c.before.before.store-cell.ensures))
+returns-in-Cell : tie.Need-returns-in-Cell
+returns-in-Cell c = set_by _ _ _ c.args.h c.args.t c.args.v _ _ _ _ c.target_place.ensures (rw c.in-Cell.is (wrote _ _ (λ σ. stored_at σ _ c.args.v) _ _ _ (λ σ. refl) c.store_cell.ensures))
 
-same-length-3 : tie.Need-same-length-3
-same-length-3 c = search rules
+shape_of-words-in-Absent : tie.Need-shape_of-words-in-Absent
+shape_of-words-in-Absent c = search rules
 
-returns-3 : tie.Need-returns-3
-returns-3 c = set_by _ _ _ c.before.before.before.before.before.before.before.before.before.before.before.before.before.args.h c.before.before.before.before.before.before.before.before.before.before.before.before.before.args.t c.before.before.before.before.before.before.before.before.before.before.before.before.before.args.v _ _ _ _ c.before.before.before.before.before.before.before.before.target-place.ensures (rw c.before.before.before.before.before.before.owner.given.1 c.before.before.set-field.ensures)
+returns-in-Absent : tie.Need-returns-in-Absent
+returns-in-Absent c = set_by _ _ _ c.args.h c.args.t c.args.v _ _ _ _ c.target_place.ensures (rw c.in-Absent.is c.set_field.ensures)
 
-same-length-4 : tie.Need-same-length-4
-same-length-4 c = search rules
+shape_of-words-in-Nowhere : tie.Need-shape_of-words-in-Nowhere
+shape_of-words-in-Nowhere c = search rules
 
-returns-4 : tie.Need-returns-4
-returns-4 c = set_by _ _ _ c.before.before.before.before.before.before.before.before.args.h c.before.before.before.before.before.before.before.before.args.t c.before.before.before.before.before.before.before.before.args.v _ _ _ _ c.before.before.before.target-place.ensures (rw c.before.why.given.1 (refuses _ _ _ _ _ c.before.before.before.before.before.before.before.before.requires.1 (λ bytes. refl)))
+returns-in-Nowhere : tie.Need-returns-in-Nowhere
+returns-in-Nowhere c = set_by _ _ _ c.args.h c.args.t c.args.v _ _ _ _ c.target_place.ensures (rw c.in-Nowhere.is (refuses _ _ _ _ _ c.requires.1 (λ bytes. refl)))
 
 pub set_target_spec : {M : Type 1} → statement M
 set_target_spec =
     tie.close
     (tie.spec
-    target-place-requires
-    enum-known-i
+    target_place-requires
+    enum_known-i
     rebind-requires
-    enum-known-i-2
-    store-cell-requires
-    enum-known-owner
-    set-field-requires
-    enum-known-why
-    same_length
-    returns
-    same-length-2
-    returns-2
-    same-length-3
-    returns-3
-    same-length-4
-    returns-4)
+    enum_known-i-in-Cell-1
+    store_cell-requires
+    enum_known-owner
+    set_field-requires
+    enum_known-why
+    shape_of-words-in-Binding
+    returns-in-Binding
+    shape_of-words-in-Cell
+    returns-in-Cell
+    shape_of-words-in-Absent
+    returns-in-Absent
+    shape_of-words-in-Nowhere
+    returns-in-Nowhere)

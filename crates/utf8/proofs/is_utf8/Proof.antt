@@ -1,7 +1,6 @@
 -- `utf8::is_utf8` meets its contract: the part up to the clamped end is the slice, and it is tested by where its characters stop.
 -- Assumes nothing.
 use mathlib.Core.Path.{◌≡◌, sym, ap, ◌∙◌}
-use mathlib.Core.Logic.{⊎_elim}
 use mathlib.Core.Bool.{not}
 use mathlib.Core.List.{List}
 use Prim.Native.Nat.{ℕ, ◌≤◌}

@@ -4,54 +4,49 @@ use borrow.Author.Rules.{rules}
 use Rattle.frames.proofs.calls.enter_call.Statement.{statement}
 use Rattle.frames.proofs.calls.enter_call.Tie as tie
 
-function-of-requires : tie.Need-function-of-requires
-function-of-requires c κs = search rules
+function_of-function-requires : tie.Need-function_of-function-requires
+function_of-function-requires c κs = search rules
 
-pending-since-requires : tie.Need-pending-since-requires
-pending-since-requires c κs = search rules
+pending_since-requires : tie.Need-pending_since-requires
+pending_since-requires c κs = search rules
 
-cast-if1 : tie.Need-overflow-cast-if1
-cast-if1 c = search rules
+overflow_cast-function : tie.Need-overflow_cast-function
+overflow_cast-function c = search rules
+
+returns-then-pending_since-function : tie.Need-returns-then-pending_since-function
+returns-then-pending_since-function c =
+    wrong_number c.requires.0 c.requires.1 c.args.from _ c.function_of-function.ensures _
+    c.pending_since.ensures c.if-pending_since-function.true
+
+bind_arguments-requires : tie.Need-bind_arguments-requires
+bind_arguments-requires c κs = search rules
+
+shape_of-words-then-bind_arguments : tie.Need-shape_of-words-then-bind_arguments
+shape_of-words-then-bind_arguments c = search rules
+
+returns-then-bind_arguments : tie.Need-returns-then-bind_arguments
+returns-then-bind_arguments c =
+    body_begun c.requires.0 c.requires.1 c.args.from _ c.function_of-function.ensures _
+    c.pending_since.ensures c.if-pending_since-function.false c.bind_arguments.ensures c.if-bind_arguments.true
+
+shape_of-words : tie.Need-shape_of-words
+shape_of-words c = search rules
 
 returns : tie.Need-returns
 returns c =
-    let start = c.before.before.before.before.before.before.before in
-    wrong_number start.requires.0 start.requires.1 start.args.from _ c.before.before.before.before.Function-of.ensures _
-    c.before.before.pending-since.ensures c.if1.true
-
-bind-arguments-requires : tie.Need-bind-arguments-requires
-bind-arguments-requires c κs = search rules
-
-same_length : tie.Need-same-length
-same_length c = search rules
-
-returns-2 : tie.Need-returns-2
-returns-2 c =
-    let before = c.before.before.before.before.before.before in
-    let start = before.before.before.before.before.before.before.before in
-    body_begun start.requires.0 start.requires.1 start.args.from _ before.before.before.before.before.Function-of.ensures _
-    before.before.before.pending-since.ensures before.if1.false c.before.before.before.bind-arguments.ensures c.if2.true
-
-same-length-2 : tie.Need-same-length-2
-same-length-2 c = search rules
-
-returns-3 : tie.Need-returns-3
-returns-3 c =
-    let before = c.before.before.before.before.before.before in
-    let start = before.before.before.before.before.before.before.before in
-    not_bound start.requires.0 start.requires.1 start.args.from _ before.before.before.before.before.Function-of.ensures _
-    before.before.before.pending-since.ensures before.if1.false c.before.before.before.bind-arguments.ensures c.if2.false
+    not_bound c.requires.0 c.requires.1 c.args.from _ c.function_of-function.ensures _
+    c.pending_since.ensures c.if-pending_since-function.false c.bind_arguments.ensures c.if-bind_arguments.false
 
 pub enter_call_spec : {M : Type 1} → statement M
 enter_call_spec =
     tie.close
     (tie.spec
-    function-of-requires
-    pending-since-requires
-    cast-if1
-    returns
-    bind-arguments-requires
-    same_length
-    returns-2
-    same-length-2
-    returns-3)
+    function_of-function-requires
+    pending_since-requires
+    overflow_cast-function
+    returns-then-pending_since-function
+    bind_arguments-requires
+    shape_of-words-then-bind_arguments
+    returns-then-bind_arguments
+    shape_of-words
+    returns)

@@ -4,20 +4,20 @@ use borrow.Author.Rules.{rules}
 use Rattle.frames.proofs.calls.function_of.Statement.{statement}
 use Rattle.frames.proofs.calls.function_of.Tie as tie
 
-node-at-requires : tie.Need-node-at-requires
-node-at-requires c κs = node_there (as_node c.before.requires)
+node_at-node-requires : tie.Need-node_at-node-requires
+node_at-node-requires c κs = node_there (as_node c.requires)
 
-cast-function-at : tie.Need-overflow-cast-function-at
-cast-function-at c = search rules
+overflow_cast-node : tie.Need-overflow_cast-node
+overflow_cast-node c = search rules
 
-function-at-requires : tie.Need-function-at-requires
-function-at-requires c κs =
-    let is = c.before.before.before.requires in
-    (rw c.before.node_at.ensures (call_names is), (node_there (as_node is)).2)
+function_at-requires : tie.Need-function_at-requires
+function_at-requires c κs =
+    let is = c.requires in
+    (rw c.node_at-node.ensures (call_names is), (node_there (as_node is)).2)
 
 returns : tie.Need-returns
-returns c = rw c.before.before.node_at.ensures at c.function-at.ensures
+returns c = rw c.node_at-node.ensures at c.function_at.ensures
 
 pub function_of_spec : {M : Type 1} → statement M
 function_of_spec =
-    tie.close (tie.spec node-at-requires cast-function-at function-at-requires returns)
+    tie.close (tie.spec node_at-node-requires overflow_cast-node function_at-requires returns)

@@ -8,27 +8,27 @@ use borrow.Author.Rules.{rules}
 use Rattle.frames.proofs.calls.leave_call.Statement.{statement}
 use Rattle.frames.proofs.calls.leave_call.Tie as tie
 
-enum-known-one : tie.Need-enum-known-one
-enum-known-one c = search rules
+enum_known-one : tie.Need-enum_known-one
+enum_known-one c = search rules
 
-end-call-requires : tie.Need-end-call-requires
-end-call-requires c κs = search rules
+end_call-requires : tie.Need-end_call-requires
+end_call-requires c κs = search rules
 
-enum-known-one-2 : tie.Need-enum-known-one-2
-enum-known-one-2 c = search rules
+enum_known-one-in-Broke-1 : tie.Need-enum_known-one-in-Broke-1
+enum_known-one-in-Broke-1 c = search rules
 
-returns : tie.Need-returns
-returns c =
-    value_left c.before.before.before.before.before.args.one (Done _) c.before.before.before.one.given.1 refl (λ image h l K σ. call_done)
-    c.end-call.ensures
+returns-in-Done : tie.Need-returns-in-Done
+returns-in-Done c =
+    value_left c.args.one (Done _) c.in-Done.is refl (λ image h l K σ. call_done)
+    c.end_call.ensures
 
-returns-2 : tie.Need-returns-2
-returns-2 c = call_broken c.before.before.before.args.one c.before.one2.given.1
+returns-in-Broke : tie.Need-returns-in-Broke
+returns-in-Broke c = call_broken c.args.one c.in-Broke.is
 
-returns-3 : tie.Need-returns-3
-returns-3 c = λ image h words bytes room. after_final _ c.before.args.one c.match.keys3
+returns-in_default : tie.Need-returns-in_default
+returns-in_default c = λ image h words bytes room. after_final _ c.args.one c.in_default.in_default-own.keys3
 
 pub leave_call_spec : {M : Type 1} → statement M
 leave_call_spec =
     tie.close
-    (tie.spec enum-known-one end-call-requires enum-known-one-2 returns returns-2 returns-3)
+    (tie.spec enum_known-one end_call-requires enum_known-one-in-Broke-1 returns-in-Done returns-in-Broke returns-in_default)

@@ -4,25 +4,24 @@ use borrow.Author.Rules.{rules}
 use Rattle.frames.proofs.loops.told.Statement.{statement}
 use Rattle.frames.proofs.loops.told.Tie as tie
 
-enum-known-one : tie.Need-enum-known-one
-enum-known-one c = search rules
+enum_known-one : tie.Need-enum_known-one
+enum_known-one c = search rules
 
-returns : tie.Need-returns
-returns c = told_out c.before.args.c c.before.args.one c.match.keys2
+returns-in_default : tie.Need-returns-in_default
+returns-in_default c = told_out c.args.c c.args.one c.in_default.in_default-own.keys2
 
-enum-known-v : tie.Need-enum-known-v
-enum-known-v c = search rules
+enum_known-v : tie.Need-enum_known-v
+enum_known-v c = search rules
 
-returns-2 : tie.Need-returns-2
-returns-2 c =
-    let start = c.before.before.before.before in
-    told_no_bool start.args.c start.args.one _ c.before.before.one.given.1 c.match2.keys2
+returns-in_default-v : tie.Need-returns-in_default-v
+returns-in_default-v c =
+    told_no_bool c.args.c c.args.one _ c.in-Done.is c.in_default-v.in_default-v-own.keys2
 
-returns-3 : tie.Need-returns-3
-returns-3 c = search rules
+returns-then-holds : tie.Need-returns-then-holds
+returns-then-holds c = search rules
 
-returns-4 : tie.Need-returns-4
-returns-4 c = search rules
+returns-else-holds : tie.Need-returns-else-holds
+returns-else-holds c = search rules
 
 pub told_spec : {M : Type 1} → statement M
-told_spec = tie.close (tie.spec enum-known-one returns enum-known-v returns-2 returns-3 returns-4)
+told_spec = tie.close (tie.spec enum_known-one returns-in_default enum_known-v returns-in_default-v returns-then-holds returns-else-holds)

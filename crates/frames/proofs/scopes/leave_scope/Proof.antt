@@ -7,20 +7,20 @@ use borrow.Author.Rules.{rules}
 use Rattle.frames.proofs.scopes.leave_scope.Statement.{statement}
 use Rattle.frames.proofs.scopes.leave_scope.Tie as tie
 
-enum_told : tie.Need-enum-told
-enum_told c = search rules
+enum_told-1 : tie.Need-enum_told-1
+enum_told-1 c = search rules
 
 close-requires : tie.Need-close-requires
 close-requires c κs = search rules
 
-returns : tie.Need-returns
-returns c =
-    let one = c.before.before.before.before.args.one in
-    let done = c.before.before.enum_told.given.1 in
+returns-in-Done : tie.Need-returns-in-Done
+returns-in-Done c =
+    let one = c.args.one in
+    let done = c.in-Done.is in
     value_left one one done done (λ image h l K σ. scope_closed) c.close.ensures
 
-returns-2 : tie.Need-returns-2
-returns-2 c = λ image h words bytes room. after_past _ c.before.args.one refl c.match.keys2 room
+returns-in_default : tie.Need-returns-in_default
+returns-in_default c = λ image h words bytes room. after_past _ c.args.one refl c.in_default.in_default-own.keys2 room
 
 pub leave_scope_spec : {M : Type 1} → statement M
-leave_scope_spec = tie.close (tie.spec enum_told close-requires returns returns-2)
+leave_scope_spec = tie.close (tie.spec enum_told-1 close-requires returns-in-Done returns-in_default)

@@ -6,59 +6,59 @@ use lib.ListN.{length}
 use Rattle.gable.proofs.meaning.line_from.Statement.{statement}
 use Rattle.gable.proofs.meaning.line_from.Tie as tie
 
-abbrev invariant-loop : tie.invariant-loop
-invariant-loop page₀ at lines start end₀ i₀ page end i = length page ≡ length page₀
+abbrev invariant-loop-i : tie.invariant-loop-i
+invariant-loop-i page₀ at lines start end₀ i₀ page end i = length page ≡ length page₀
 
-abbrev decreases-loop : tie.decreases-loop
-decreases-loop page₀ at lines start end₀ i₀ page end i = length lines - i
+abbrev decreases-loop-i : tie.decreases-loop-i
+decreases-loop-i page₀ at lines start end₀ i₀ page end i = length lines - i
 
-loop-holds : tie.Need-loop-init invariant-loop decreases-loop
-loop-holds c = search rules
+loop-i-init : tie.Need-loop-i-init invariant-loop-i decreases-loop-i
+loop-i-init c = search rules
 
-shared-slice-read-if1 : tie.Need-shared-slice-read-if1 invariant-loop decreases-loop
-shared-slice-read-if1 c = search rules
+bounds-lines-i : tie.Need-bounds-lines-i invariant-loop-i decreases-loop-i
+bounds-lines-i c = search rules
 
-same_length : tie.Need-same-length invariant-loop decreases-loop
-same_length c = search rules
+shape_of-page-then-lines-i-eq10 : tie.Need-shape_of-page-then-lines-i-eq10 invariant-loop-i decreases-loop-i
+shape_of-page-then-lines-i-eq10 c = search rules
 
-returns : tie.Need-returns invariant-loop decreases-loop
+returns-then-lines-i-eq10 : tie.Need-returns-then-lines-i-eq10 invariant-loop-i decreases-loop-i
+returns-then-lines-i-eq10 c = search rules
+
+bounds-lines-i-in-loop-i : tie.Need-bounds-lines-i-in-loop-i invariant-loop-i decreases-loop-i
+bounds-lines-i-in-loop-i c = search rules
+
+byte-end-requires : tie.Need-byte-end-requires invariant-loop-i decreases-loop-i
+byte-end-requires c κs = search rules
+
+overflow_add-i : tie.Need-overflow_add-i invariant-loop-i decreases-loop-i
+overflow_add-i c = search rules
+
+loop-i-smaller : tie.Need-loop-i-smaller invariant-loop-i decreases-loop-i
+loop-i-smaller c = search rules
+
+loop-i-preserved : tie.Need-loop-i-preserved invariant-loop-i decreases-loop-i
+loop-i-preserved c = search rules
+
+shape_of-page : tie.Need-shape_of-page invariant-loop-i decreases-loop-i
+shape_of-page c = search rules
+
+returns : tie.Need-returns invariant-loop-i decreases-loop-i
 returns c = search rules
-
-shared-slice-read-byte : tie.Need-shared-slice-read-byte invariant-loop decreases-loop
-shared-slice-read-byte c = search rules
-
-byte-requires : tie.Need-byte-requires invariant-loop decreases-loop
-byte-requires c κs = search rules
-
-add-i : tie.Need-overflow-add-i invariant-loop decreases-loop
-add-i c = search rules
-
-loop-less : tie.Need-loop-smaller invariant-loop decreases-loop
-loop-less c = search rules
-
-loop-again : tie.Need-loop-preserved invariant-loop decreases-loop
-loop-again c = search rules
-
-same-length-2 : tie.Need-same-length-2 invariant-loop decreases-loop
-same-length-2 c = search rules
-
-returns-2 : tie.Need-returns-2 invariant-loop decreases-loop
-returns-2 c = search rules
 
 pub line_from_spec : {M : Type 1} → statement M
 line_from_spec =
     tie.close
     (tie.spec
-    invariant-loop
-    decreases-loop
-    loop-holds
-    shared-slice-read-if1
-    same_length
-    returns
-    shared-slice-read-byte
-    byte-requires
-    add-i
-    loop-less
-    loop-again
-    same-length-2
-    returns-2)
+    invariant-loop-i
+    decreases-loop-i
+    loop-i-init
+    bounds-lines-i
+    shape_of-page-then-lines-i-eq10
+    returns-then-lines-i-eq10
+    bounds-lines-i-in-loop-i
+    byte-end-requires
+    overflow_add-i
+    loop-i-smaller
+    loop-i-preserved
+    shape_of-page
+    returns)

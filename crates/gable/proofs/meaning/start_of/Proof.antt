@@ -6,47 +6,47 @@ use lib.ListN.{length}
 use Rattle.gable.proofs.meaning.start_of.Statement.{statement}
 use Rattle.gable.proofs.meaning.start_of.Tie as tie
 
-abbrev invariant-loop : tie.invariant-loop
-invariant-loop lines n left₀ i₀ left i = Unit {0}
+abbrev invariant-loop-i : tie.invariant-loop-i
+invariant-loop-i lines n left₀ i₀ left i = Unit {0}
 
-abbrev decreases-loop : tie.decreases-loop
-decreases-loop lines n left₀ i₀ left i = length lines - i
+abbrev decreases-loop-i : tie.decreases-loop-i
+decreases-loop-i lines n left₀ i₀ left i = length lines - i
 
-loop-holds : tie.Need-loop-init invariant-loop decreases-loop
-loop-holds c = search rules
+loop-i-init : tie.Need-loop-i-init invariant-loop-i decreases-loop-i
+loop-i-init c = search rules
 
-returns : tie.Need-returns invariant-loop decreases-loop
+returns-then-left-eq0 : tie.Need-returns-then-left-eq0 invariant-loop-i decreases-loop-i
+returns-then-left-eq0 c = search rules
+
+bounds-lines-i : tie.Need-bounds-lines-i invariant-loop-i decreases-loop-i
+bounds-lines-i c = search rules
+
+overflow_sub-left : tie.Need-overflow_sub-left invariant-loop-i decreases-loop-i
+overflow_sub-left c = search rules
+
+overflow_add-i : tie.Need-overflow_add-i invariant-loop-i decreases-loop-i
+overflow_add-i c = search rules
+
+loop-i-smaller : tie.Need-loop-i-smaller invariant-loop-i decreases-loop-i
+loop-i-smaller c = omega arith
+
+loop-i-preserved : tie.Need-loop-i-preserved invariant-loop-i decreases-loop-i
+loop-i-preserved c = search rules
+
+returns : tie.Need-returns invariant-loop-i decreases-loop-i
 returns c = search rules
-
-shared-slice-read-if2 : tie.Need-shared-slice-read-if2 invariant-loop decreases-loop
-shared-slice-read-if2 c = search rules
-
-sub-left : tie.Need-overflow-sub-left invariant-loop decreases-loop
-sub-left c = search rules
-
-add-i : tie.Need-overflow-add-i invariant-loop decreases-loop
-add-i c = search rules
-
-loop-less : tie.Need-loop-smaller invariant-loop decreases-loop
-loop-less c = omega arith
-
-loop-again : tie.Need-loop-preserved invariant-loop decreases-loop
-loop-again c = search rules
-
-returns-2 : tie.Need-returns-2 invariant-loop decreases-loop
-returns-2 c = search rules
 
 pub start_of_spec : {M : Type 1} → statement M
 start_of_spec =
     tie.close
     (tie.spec
-    invariant-loop
-    decreases-loop
-    loop-holds
-    returns
-    shared-slice-read-if2
-    sub-left
-    add-i
-    loop-less
-    loop-again
-    returns-2)
+    invariant-loop-i
+    decreases-loop-i
+    loop-i-init
+    returns-then-left-eq0
+    bounds-lines-i
+    overflow_sub-left
+    overflow_add-i
+    loop-i-smaller
+    loop-i-preserved
+    returns)

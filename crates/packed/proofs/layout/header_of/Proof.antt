@@ -1,6 +1,6 @@
 -- `packed::layout::header_of` meets its contract: each field is cut out of the record's word (`cut_field`). Assumes nothing.
 use mathlib.Core.Path.{refl}
-use Prim.Native.Nat.{◌-◌, ◌*◌}
+use Prim.Native.Nat.{◌*◌}
 use Rattle.fields.proofs.Laws.{cut_field}
 use Rattle.packed.specs.Layout.{header_of}
 use borrow.Author.Rules.{rules}

@@ -3,71 +3,71 @@ use Rattle.std.proofs.Common.{◌-◌, rules}
 use Rattle.worked.proofs.case.read_numbers.Statement.{statement}
 use Rattle.worked.proofs.case.read_numbers.Tie as tie
 
-abbrev invariant-loop : tie.invariant-loop
-invariant-loop line numbers₀ i₀ numbers i = Unit {0}
+abbrev invariant-loop-i : tie.invariant-loop-i
+invariant-loop-i line numbers₀ i₀ numbers i = Unit {0}
 
-abbrev decreases-loop : tie.decreases-loop
-decreases-loop line numbers₀ i₀ numbers i = 7 - i
+abbrev decreases-loop-i : tie.decreases-loop-i
+decreases-loop-i line numbers₀ i₀ numbers i = 7 - i
 
-loop-holds : tie.Need-loop-init invariant-loop decreases-loop
-loop-holds c = search rules
+loop-i-init : tie.Need-loop-i-init invariant-loop-i decreases-loop-i
+loop-i-init c = search rules
 
-add-number : tie.Need-overflow-add-number invariant-loop decreases-loop
-add-number c = search rules
+overflow_add-i : tie.Need-overflow_add-i invariant-loop-i decreases-loop-i
+overflow_add-i c = search rules
 
-number-requires : tie.Need-number-requires invariant-loop decreases-loop
+number-requires : tie.Need-number-requires invariant-loop-i decreases-loop-i
 number-requires c κs = search rules
 
-enum-known-n : tie.Need-enum-known-n invariant-loop decreases-loop
-enum-known-n c = search rules
+enum_known-n : tie.Need-enum_known-n invariant-loop-i decreases-loop-i
+enum_known-n c = search rules
 
-enum_told : tie.Need-enum-told invariant-loop decreases-loop
-enum_told c = search rules
+enum_told-1 : tie.Need-enum_told-1 invariant-loop-i decreases-loop-i
+enum_told-1 c = search rules
 
-returns : tie.Need-returns invariant-loop decreases-loop
+returns-in_default : tie.Need-returns-in_default invariant-loop-i decreases-loop-i
+returns-in_default c = search rules
+
+offset_bounds-numbers-i : tie.Need-offset_bounds-numbers-i invariant-loop-i decreases-loop-i
+offset_bounds-numbers-i c = search rules
+
+bounds-numbers-i : tie.Need-bounds-numbers-i invariant-loop-i decreases-loop-i
+bounds-numbers-i c = search rules
+
+overflow_add-i-in-loop-i : tie.Need-overflow_add-i-in-loop-i invariant-loop-i decreases-loop-i
+overflow_add-i-in-loop-i c = search rules
+
+loop-i-smaller : tie.Need-loop-i-smaller invariant-loop-i decreases-loop-i
+loop-i-smaller c = search rules
+
+loop-i-preserved : tie.Need-loop-i-preserved invariant-loop-i decreases-loop-i
+loop-i-preserved c = search rules
+
+start_of-last-requires : tie.Need-start_of-last-requires invariant-loop-i decreases-loop-i
+start_of-last-requires c κs = search rules
+
+end_of-requires : tie.Need-end_of-requires invariant-loop-i decreases-loop-i
+end_of-requires c κs = search rules
+
+returns : tie.Need-returns invariant-loop-i decreases-loop-i
 returns c = search rules
-
-mul-numbers : tie.Need-overflow-mul-numbers invariant-loop decreases-loop
-mul-numbers c = search rules
-
-element-write-numbers : tie.Need-element-write-numbers invariant-loop decreases-loop
-element-write-numbers c = search rules
-
-add-i : tie.Need-overflow-add-i invariant-loop decreases-loop
-add-i c = search rules
-
-loop-less : tie.Need-loop-smaller invariant-loop decreases-loop
-loop-less c = search rules
-
-loop-again : tie.Need-loop-preserved invariant-loop decreases-loop
-loop-again c = search rules
-
-start-of-requires : tie.Need-start-of-requires invariant-loop decreases-loop
-start-of-requires c κs = search rules
-
-end-of-requires : tie.Need-end-of-requires invariant-loop decreases-loop
-end-of-requires c κs = search rules
-
-returns-2 : tie.Need-returns-2 invariant-loop decreases-loop
-returns-2 c = search rules
 
 pub read_numbers_spec : {M : Type 1} → statement M
 read_numbers_spec =
     tie.close
     (tie.spec
-    invariant-loop
-    decreases-loop
-    loop-holds
-    add-number
+    invariant-loop-i
+    decreases-loop-i
+    loop-i-init
+    overflow_add-i
     number-requires
-    enum-known-n
-    enum_told
-    returns
-    mul-numbers
-    element-write-numbers
-    add-i
-    loop-less
-    loop-again
-    start-of-requires
-    end-of-requires
-    returns-2)
+    enum_known-n
+    enum_told-1
+    returns-in_default
+    offset_bounds-numbers-i
+    bounds-numbers-i
+    overflow_add-i-in-loop-i
+    loop-i-smaller
+    loop-i-preserved
+    start_of-last-requires
+    end_of-requires
+    returns)

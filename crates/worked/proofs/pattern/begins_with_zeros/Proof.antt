@@ -3,51 +3,51 @@ use Rattle.std.proofs.Common.{◌-◌, length, rules}
 use Rattle.worked.proofs.pattern.begins_with_zeros.Statement.{statement}
 use Rattle.worked.proofs.pattern.begins_with_zeros.Tie as tie
 
-abbrev invariant-loop : tie.invariant-loop
-invariant-loop words zeros first pattern₀ i₀ pattern i = Unit {0}
+abbrev invariant-loop-i : tie.invariant-loop-i
+invariant-loop-i words zeros first pattern₀ i₀ pattern i = Unit {0}
 
-abbrev decreases-loop : tie.decreases-loop
-decreases-loop words zeros first pattern₀ i₀ pattern i = length words - i
+abbrev decreases-loop-i : tie.decreases-loop-i
+decreases-loop-i words zeros first pattern₀ i₀ pattern i = length words - i
 
-loop-holds : tie.Need-loop-init invariant-loop decreases-loop
-loop-holds c = search rules
+loop-i-init : tie.Need-loop-i-init invariant-loop-i decreases-loop-i
+loop-i-init c = search rules
 
-mul-if2 : tie.Need-overflow-mul-if2 invariant-loop decreases-loop
-mul-if2 c = search rules
+offset_bounds-words-i : tie.Need-offset_bounds-words-i invariant-loop-i decreases-loop-i
+offset_bounds-words-i c = search rules
 
-shared-slice-read-if2 : tie.Need-shared-slice-read-if2 invariant-loop decreases-loop
-shared-slice-read-if2 c = search rules
+bounds-words-i : tie.Need-bounds-words-i invariant-loop-i decreases-loop-i
+bounds-words-i c = search rules
 
-returns : tie.Need-returns invariant-loop decreases-loop
+returns-then-words-i : tie.Need-returns-then-words-i invariant-loop-i decreases-loop-i
+returns-then-words-i c = search rules
+
+wrapping_add_u64-pattern-requires : tie.Need-wrapping_add_u64-pattern-requires invariant-loop-i decreases-loop-i
+wrapping_add_u64-pattern-requires c κs = search rules
+
+overflow_add-i : tie.Need-overflow_add-i invariant-loop-i decreases-loop-i
+overflow_add-i c = search rules
+
+loop-i-smaller : tie.Need-loop-i-smaller invariant-loop-i decreases-loop-i
+loop-i-smaller c = search rules
+
+loop-i-preserved : tie.Need-loop-i-preserved invariant-loop-i decreases-loop-i
+loop-i-preserved c = search rules
+
+returns : tie.Need-returns invariant-loop-i decreases-loop-i
 returns c = search rules
-
-wrapping-add-u64-requires : tie.Need-wrapping-add-u64-requires invariant-loop decreases-loop
-wrapping-add-u64-requires c κs = search rules
-
-add-i : tie.Need-overflow-add-i invariant-loop decreases-loop
-add-i c = search rules
-
-loop-less : tie.Need-loop-smaller invariant-loop decreases-loop
-loop-less c = search rules
-
-loop-again : tie.Need-loop-preserved invariant-loop decreases-loop
-loop-again c = search rules
-
-returns-2 : tie.Need-returns-2 invariant-loop decreases-loop
-returns-2 c = search rules
 
 pub begins_with_zeros_spec : {M : Type 1} → statement M
 begins_with_zeros_spec =
     tie.close
     (tie.spec
-    invariant-loop
-    decreases-loop
-    loop-holds
-    mul-if2
-    shared-slice-read-if2
-    returns
-    wrapping-add-u64-requires
-    add-i
-    loop-less
-    loop-again
-    returns-2)
+    invariant-loop-i
+    decreases-loop-i
+    loop-i-init
+    offset_bounds-words-i
+    bounds-words-i
+    returns-then-words-i
+    wrapping_add_u64-pattern-requires
+    overflow_add-i
+    loop-i-smaller
+    loop-i-preserved
+    returns)

@@ -3,51 +3,51 @@ use Rattle.std.proofs.Common.{◌≡◌, ◌-◌, length, rules}
 use Rattle.worked.proofs.pattern.fill_words.Statement.{statement}
 use Rattle.worked.proofs.pattern.fill_words.Tie as tie
 
-abbrev invariant-loop : tie.invariant-loop
-invariant-loop words₀ first pattern₀ i₀ words pattern i = length words ≡ length words₀
+abbrev invariant-loop-i : tie.invariant-loop-i
+invariant-loop-i words₀ first pattern₀ i₀ words pattern i = length words ≡ length words₀
 
-abbrev decreases-loop : tie.decreases-loop
-decreases-loop words₀ first pattern₀ i₀ words pattern i = length words₀ - i
+abbrev decreases-loop-i : tie.decreases-loop-i
+decreases-loop-i words₀ first pattern₀ i₀ words pattern i = length words₀ - i
 
-loop-holds : tie.Need-loop-init invariant-loop decreases-loop
-loop-holds c = search rules
+loop-i-init : tie.Need-loop-i-init invariant-loop-i decreases-loop-i
+loop-i-init c = search rules
 
-mul_words : tie.Need-overflow-mul-words invariant-loop decreases-loop
-mul_words c = search rules
+offset_bounds-words-i : tie.Need-offset_bounds-words-i invariant-loop-i decreases-loop-i
+offset_bounds-words-i c = search rules
 
-slice-write-words : tie.Need-slice-write-words invariant-loop decreases-loop
-slice-write-words c = search rules
+bounds-words-i : tie.Need-bounds-words-i invariant-loop-i decreases-loop-i
+bounds-words-i c = search rules
 
-wrapping-add-u64-requires : tie.Need-wrapping-add-u64-requires invariant-loop decreases-loop
-wrapping-add-u64-requires c κs = search rules
+wrapping_add_u64-pattern-requires : tie.Need-wrapping_add_u64-pattern-requires invariant-loop-i decreases-loop-i
+wrapping_add_u64-pattern-requires c κs = search rules
 
-add-i : tie.Need-overflow-add-i invariant-loop decreases-loop
-add-i c = search rules
+overflow_add-i : tie.Need-overflow_add-i invariant-loop-i decreases-loop-i
+overflow_add-i c = search rules
 
-loop-less : tie.Need-loop-smaller invariant-loop decreases-loop
-loop-less c = search rules
+loop-i-smaller : tie.Need-loop-i-smaller invariant-loop-i decreases-loop-i
+loop-i-smaller c = search rules
 
-loop-again : tie.Need-loop-preserved invariant-loop decreases-loop
-loop-again c = search rules
+loop-i-preserved : tie.Need-loop-i-preserved invariant-loop-i decreases-loop-i
+loop-i-preserved c = search rules
 
-same_length : tie.Need-same-length invariant-loop decreases-loop
-same_length c = search rules
+shape_of-words : tie.Need-shape_of-words invariant-loop-i decreases-loop-i
+shape_of-words c = search rules
 
-returns : tie.Need-returns invariant-loop decreases-loop
+returns : tie.Need-returns invariant-loop-i decreases-loop-i
 returns c = search rules
 
 pub fill_words_spec : {M : Type 1} → statement M
 fill_words_spec =
     tie.close
     (tie.spec
-    invariant-loop
-    decreases-loop
-    loop-holds
-    mul_words
-    slice-write-words
-    wrapping-add-u64-requires
-    add-i
-    loop-less
-    loop-again
-    same_length
+    invariant-loop-i
+    decreases-loop-i
+    loop-i-init
+    offset_bounds-words-i
+    bounds-words-i
+    wrapping_add_u64-pattern-requires
+    overflow_add-i
+    loop-i-smaller
+    loop-i-preserved
+    shape_of-words
     returns)

@@ -3,59 +3,59 @@ use Rattle.std.proofs.Common.{◌-◌, length, rules}
 use Rattle.worked.proofs.word.number_of.Statement.{statement}
 use Rattle.worked.proofs.word.number_of.Tie as tie
 
-abbrev invariant-loop : tie.invariant-loop
-invariant-loop word n₀ i₀ n i = Unit {0}
+abbrev invariant-loop-i : tie.invariant-loop-i
+invariant-loop-i word n₀ i₀ n i = Unit {0}
 
-abbrev decreases-loop : tie.decreases-loop
-decreases-loop word n₀ i₀ n i = length word - i
+abbrev decreases-loop-i : tie.decreases-loop-i
+decreases-loop-i word n₀ i₀ n i = length word - i
 
-returns : tie.Need-returns invariant-loop decreases-loop
+returns-then-word-eq0 : tie.Need-returns-then-word-eq0 invariant-loop-i decreases-loop-i
+returns-then-word-eq0 c = search rules
+
+loop-i-init : tie.Need-loop-i-init invariant-loop-i decreases-loop-i
+loop-i-init c = search rules
+
+bounds-word-i : tie.Need-bounds-word-i invariant-loop-i decreases-loop-i
+bounds-word-i c = search rules
+
+with_digit-requires : tie.Need-with_digit-requires invariant-loop-i decreases-loop-i
+with_digit-requires c κs = search rules
+
+enum_known-more : tie.Need-enum_known-more invariant-loop-i decreases-loop-i
+enum_known-more c = search rules
+
+enum_told-1 : tie.Need-enum_told-1 invariant-loop-i decreases-loop-i
+enum_told-1 c = search rules
+
+returns-in_default : tie.Need-returns-in_default invariant-loop-i decreases-loop-i
+returns-in_default c = search rules
+
+overflow_add-i : tie.Need-overflow_add-i invariant-loop-i decreases-loop-i
+overflow_add-i c = search rules
+
+loop-i-smaller : tie.Need-loop-i-smaller invariant-loop-i decreases-loop-i
+loop-i-smaller c = search rules
+
+loop-i-preserved : tie.Need-loop-i-preserved invariant-loop-i decreases-loop-i
+loop-i-preserved c = search rules
+
+returns : tie.Need-returns invariant-loop-i decreases-loop-i
 returns c = search rules
-
-loop-holds : tie.Need-loop-init invariant-loop decreases-loop
-loop-holds c = search rules
-
-shared-slice-read-with-digit : tie.Need-shared-slice-read-with-digit invariant-loop decreases-loop
-shared-slice-read-with-digit c = search rules
-
-with-digit-requires : tie.Need-with-digit-requires invariant-loop decreases-loop
-with-digit-requires c κs = search rules
-
-enum-known-more : tie.Need-enum-known-more invariant-loop decreases-loop
-enum-known-more c = search rules
-
-enum_told : tie.Need-enum-told invariant-loop decreases-loop
-enum_told c = search rules
-
-returns-2 : tie.Need-returns-2 invariant-loop decreases-loop
-returns-2 c = search rules
-
-add-i : tie.Need-overflow-add-i invariant-loop decreases-loop
-add-i c = search rules
-
-loop-less : tie.Need-loop-smaller invariant-loop decreases-loop
-loop-less c = search rules
-
-loop-again : tie.Need-loop-preserved invariant-loop decreases-loop
-loop-again c = search rules
-
-returns-3 : tie.Need-returns-3 invariant-loop decreases-loop
-returns-3 c = search rules
 
 pub number_of_spec : {M : Type 1} → statement M
 number_of_spec =
     tie.close
     (tie.spec
-    invariant-loop
-    decreases-loop
-    returns
-    loop-holds
-    shared-slice-read-with-digit
-    with-digit-requires
-    enum-known-more
-    enum_told
-    returns-2
-    add-i
-    loop-less
-    loop-again
-    returns-3)
+    invariant-loop-i
+    decreases-loop-i
+    returns-then-word-eq0
+    loop-i-init
+    bounds-word-i
+    with_digit-requires
+    enum_known-more
+    enum_told-1
+    returns-in_default
+    overflow_add-i
+    loop-i-smaller
+    loop-i-preserved
+    returns)
