@@ -13,14 +13,15 @@ use Rattle.packed.specs.declared.layout.Header.{Header}
 use Rattle.packed.specs.declared.layout.Node.{Node}
 use Rattle.packed.specs.Layout.{node_at}
 use Rattle.rules.specs.declared.Value.{Value}
+use Rattle.rules.specs.declared.Value.TheVariants.{Vec, Tuple}
 use Rattle.rules.specs.declared.Refusal.{Refusal}
 use Rattle.rules.specs.declared.Refusal.TheVariants.{Pending}
 use Rattle.rules.specs.declared.Got.{Got}
 use Rattle.rules.specs.Store.{Store, most_pending, pushed, dropped, as_float}
 use Rattle.rules.specs.Building.{printed, unprinted}
-use Rattle.rules.specs.Machine.{Kind, template, object, kind_of, items, brk, going, stop, onward}
+use Rattle.rules.specs.Machine.{Kind, template, object, kinds, kind_of, items, brk, going, stop, onward}
 use Rattle.rules.proofs.Going.{to}
-use Rattle.rules.proofs.ItemMoves.{Boxes, Accepts, unjudged, prints, item_accepted, too_many_pending, item_unprinted, template_built, items_boxed, entries_boxed}
+use Rattle.rules.proofs.ItemMoves.{Boxes, vecs as vec_boxes, tuples as tuple_boxes, Accepts, unjudged, prints, item_accepted, too_many_pending, item_unprinted, template_built, items_boxed, entries_boxed}
 use Rattle.rules.proofs.BreakMoves.{break_drops}
 use Rattle.stores.specs.Stores.{store_of, Fits, Makes, MakesWords, BecameRun, TriedWords}
 use Rattle.stores.specs.Pending.{pushed_if_room}
@@ -148,6 +149,16 @@ module _ {image : List ℕ} {h : Header} {n from : ℕ} {run words run' words' :
   pub box_done : {bytes : List ℕ} {k : Kind} {box : ℕ → Value} → Boxes k box → kind_of d.kind ≡ k → MakesWords got (items_made box n from) run words run' words'
       → r ≡ got_of got → Built image h n from run words bytes run' words' bytes r
   box_done {bytes} boxes k made e depth = rw e (made_post (λ K. items_boxed refl boxes (rw node at k) refl) (made bytes))
+
+  pub vec_done : {bytes : List ℕ} → d.kind ≡ 13 → MakesWords got (items_made Vec n from) run words run' words' → r ≡ got_of got
+      → Built image h n from run words bytes run' words' bytes r
+  unfolding kind_of kinds
+  vec_done k = box_done vec_boxes (ap kind_of k)
+
+  pub tuple_done : {bytes : List ℕ} → d.kind ≡ 14 → MakesWords got (items_made Tuple n from) run words run' words' → r ≡ got_of got
+      → Built image h n from run words bytes run' words' bytes r
+  unfolding kind_of kinds
+  tuple_done k = box_done tuple_boxes (ap kind_of k)
 
   pub object_done : {bytes : List ℕ} → kind_of d.kind ≡ object → MakesWords got (object_made image h n from) run words run' words'
       → r ≡ got_of got → Built image h n from run words bytes run' words' bytes r

@@ -15,24 +15,30 @@ use packed::layout::{Header, node_at};
 use rules::{Got, Refusal, Value};
 use stores::pending::{drop_pending, push};
 
+// The kind of an object.
+const OBJECT: u8 = 15;
+
 // The expression of an item: an entry's value, or the item itself.
 pub fn item_node(image: &[u8], h: Header, n: u16, i: u16) -> u16
     requires { IsNode image.now h n × IsNode image.now h i }
     ensures { result ≡ item_node image.now h n i }
 {
     let node = node_at(image, h, n as usize);
-    if node.kind == 15 {
+    if node.kind == OBJECT {
         let entry = node_at(image, h, i as usize);
         return entry.b;
     }
     i
 }
 
+// The kind of a template.
+const TEMPLATE: u8 = 6;
+
 // "each component is judged as soon as it is evaluated", by the kind of the node whose item it is.
 fn judge(kind: u8, v: Value) -> Judged
     ensures { Judges kind v result }
 {
-    if kind == 6 {
+    if kind == TEMPLATE {
         return judge_component(v);
     }
     Judged::Prints

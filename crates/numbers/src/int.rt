@@ -85,13 +85,16 @@ pub fn checked_mul(x: i64, y: i64) -> Arith
     Arith::Refused(ArithRefusal::Overflow)
 }
 
+// The least i64, which has no quotient by -1.
+const LEAST: i64 = i64::MIN;
+
 pub fn checked_div(x: i64, y: i64) -> Arith
     ensures { result ≡ div_of x y }
 {
     if y == 0 {
         return Arith::Refused(ArithRefusal::Division);
     }
-    if x == i64::MIN && y == -1 {
+    if x == LEAST && y == -1 {
         return Arith::Refused(ArithRefusal::Division);
     }
     Arith::Value(x / y)

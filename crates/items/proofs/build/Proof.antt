@@ -1,9 +1,8 @@
--- `items::build` meets its contract: `template_done`, `box_done`, `object_done`; no other kind builds. Assumes nothing.
+-- `items::build` meets its contract: `template_done`, `vec_done`, `tuple_done`, `object_done`; no other kind builds. Assumes nothing.
 use mathlib.Core.Path.{ap}
 use Rattle.rules.specs.Machine.{kinds, kind_of}
-use Rattle.rules.proofs.ItemMoves.{vecs, tuples}
 use Rattle.outcomes.proofs.NodeLaws.{node_there, of_kind}
-use Rattle.items.proofs.ItemLaws.{template_done, box_done, object_done, no_other}
+use Rattle.items.proofs.ItemLaws.{template_done, vec_done, tuple_done, object_done, no_other}
 use borrow.Author.Rules.{rules}
 use Rattle.items.proofs.build.Statement.{statement}
 use Rattle.items.proofs.build.Tie as tie
@@ -52,17 +51,13 @@ shape_of-words-in-13 : tie.Need-shape_of-words-in-13
 shape_of-words-in-13 c = search rules
 
 returns-in-13 : tie.Need-returns-in-13
-unfolding kind_of kinds
-returns-in-13 c =
-    box_done _ c.node_at-node.ensures vecs (ap kind_of c.in-13.is) c.make_vec.ensures c.made-in-13.ensures
+returns-in-13 c = search (rules, vec_done)
 
 shape_of-words-in-14 : tie.Need-shape_of-words-in-14
 shape_of-words-in-14 c = search rules
 
 returns-in-14 : tie.Need-returns-in-14
-unfolding kind_of kinds
-returns-in-14 c =
-    box_done _ c.node_at-node.ensures tuples (ap kind_of c.in-14.is) c.make_tuple.ensures c.made-in-14.ensures
+returns-in-14 c = search (rules, tuple_done)
 
 shape_of-words-in-15 : tie.Need-shape_of-words-in-15
 shape_of-words-in-15 c = search rules

@@ -7,11 +7,11 @@ use Rattle.items.proofs.judge.Tie as tie
 judge_component-requires : tie.Need-judge_component-requires
 judge_component-requires c κs = search rules
 
-returns-then-kind-eq6 : tie.Need-returns-then-kind-eq6
-returns-then-kind-eq6 c = record { is = λ image h σ. rw (eq-eqb _ _ c.if-kind-eq6.true) (c.judge_component.ensures.is image h σ) }
+returns-then-kind-eq-TEMPLATE : tie.Need-returns-then-kind-eq-TEMPLATE
+returns-then-kind-eq-TEMPLATE c = record { is = λ image h σ. rw (eq-eqb _ _ c.if-kind-eq-TEMPLATE.true) (c.judge_component.ensures.is image h σ) }
 
 returns : tie.Need-returns
-returns c = record { is = λ image h σ. rw (ne_eqb _ _ c.if-kind-eq6.false) }
+returns c = record { is = λ image h σ. rw (ne_eqb _ _ c.if-kind-eq-TEMPLATE.false) }
 
 pub judge_spec : {M : Type 1} → statement M
-judge_spec = tie.close (tie.spec judge_component-requires returns-then-kind-eq6 returns)
+judge_spec = tie.close (tie.spec judge_component-requires returns-then-kind-eq-TEMPLATE returns)
