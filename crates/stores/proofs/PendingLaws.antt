@@ -12,7 +12,6 @@ use Rattle.stores.specs.Pending.{pushed_if_room}
 use Rattle.stores.specs.Stores.{pending_of, pending_in, store_of, Fits, Tried, TriedWords, pendings_in}
 use Rattle.stores.proofs.Chains.{refused, made, became_as}
 use Rattle.stores.proofs.Counted.{pending_counted, length_part, one_more}
-use mathlib.Core.Option.{some}
 use native.Mathlib.Decide.{dec_lt}
 use native.Mathlib.Omega.{arith}
 use lib.Seq.{drop-append-le}
