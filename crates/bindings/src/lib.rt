@@ -1,4 +1,6 @@
 // Scopes and their bindings, as scopes.rs has them: a scope is the bindings from a number on.
+#![tactic(auto)]
+
 ghost use Rattle.std.specs.Prelude.{◌≡◌, ◌+◌, ◌-◌, ◌≤◌, ◌<◌, length, drop};
 ghost use Rattle.rules.specs.Store.{last_of, rebound, declared, opened, emptied, closed};
 ghost use Rattle.bindings.specs.Scopes.{Sought, BoundAt, first_bindings, arguments_bound, broken_out, call_ended, Copied};

@@ -1,5 +1,7 @@
 // Vec, tuple and object: a head, and items or entries that say whose they are. A cell is four words: its value's payload and kind, what it is and whose,
 // and an entry's key.
+#![tactic(auto)]
+
 ghost use Rattle.std.specs.Prelude.{◌≡◌, ◌+◌, ◌-◌, ◌*◌, ◌≤◌, ◌<◌, length};
 ghost use Rattle.packed.specs.Layout.{size_of};
 ghost use Rattle.rules.specs.Store.{stored_at};

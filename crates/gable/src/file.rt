@@ -36,26 +36,28 @@ fn tell_why(stderr: &impl Print, before: &[u8], path: &[u8], why: &Error) {
     warn_errno(stderr, &page, at, why);
 }
 
-// Reads until the image is full or the file ends; how many bytes were read.
-fn read_full(file: &mut impl Read, image: &mut [u8]) -> io::Result<usize>
-    ensures { IfOk result (λ n. n ≤ length image.new) }
+// Reads until the image is full, the file ends or a read fails; how many bytes were read.
+fn read_full(file: &mut impl Read, image: &mut [u8]) -> usize
+    ensures { result ≤ length image.new }
 {
     let mut done = 0;
     while done < image.len() {
-        let n = file.read(&mut image[done..])?;
+        let Ok(n) = file.read(&mut image[done..]) else {
+            return done;
+        };
         if n == 0 {
-            return Ok(done);
+            return done;
         }
         done += n;
     }
-    Ok(done)
+    done
 }
 
-// The same, and none if the file goes on: the read after the last tells.
+// The same, and none if the file goes on: the read after the last tells that, or why there is no more.
 fn read_to_end(file: &mut impl Read, image: &mut [u8]) -> io::Result<Option<usize>>
     ensures { IfOk result (λ some. IfSome some (λ n. n ≤ length image.new)) }
 {
-    let length = read_full(file, image)?;
+    let length = read_full(file, image);
     let mut beyond = [0u8; 1];
     if file.read(&mut beyond)? == 0 {
         Ok(Some(length))

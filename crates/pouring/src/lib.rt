@@ -1,5 +1,7 @@
 // Bits poured into an output, the most significant first. Eight times an output's length may not fit 64 bits, so a place in it is
 // whole bytes and bits of the next one. The same calls measure: where `writing` is false they only tell the place.
+#![tactic(auto)]
+
 ghost use Rattle.std.specs.Prelude.{◌≡◌, [], ◌∷◌, ◌+◌, ◌-◌, ◌*◌, ◌/◌, ◌^◌, ◌≤◌, ◌<◌, leb, length};
 ghost use Rattle.std.proofs.Math.Seq.{slice};
 ghost use Rattle.rules.specs.Output.{bits_of, byte_pieces};

@@ -135,13 +135,13 @@ pub fn escaped(out: &mut [u8], at: usize, b: u8, quote: u8) -> usize
 // What the system says of an error has room here.
 #[derive(Drop)]
 struct Text {
-    page: [u8; 128],
+    words: [u8; 128],
     at: usize,
 }
 
 impl fmt::Write for Text {
     fn write_str(&mut self, s: &str) -> fmt::Result {
-        self.at = bytes(&mut self.page, self.at, s.as_bytes());
+        self.at = bytes(&mut self.words, self.at, s.as_bytes());
         Ok(())
     }
 }
@@ -161,13 +161,13 @@ fn without_number(text: &[u8]) -> &[u8] {
 // Writes a line: what failed, as the caller names it, a colon and why.
 fn fail(stderr: &impl Print, what: &[u8], error: &Error) {
     let mut text = Text {
-        page: [0u8; 128],
+        words: [0u8; 128],
         at: 0,
     };
     let _ = write!(text, "{error}");
     let _ = stderr.write_all(what);
     let _ = stderr.write_all(b": ");
-    let _ = stderr.write_all(without_number(&text.page[..text.at.min(128)]));
+    let _ = stderr.write_all(without_number(&text.words[..text.at.min(128)]));
     let _ = stderr.write_all(b"\n");
 }
 

@@ -1,4 +1,6 @@
 // A value in two words: its kind, as literals and the output number it, and its payload, as a literal has it.
+#![tactic(auto)]
+
 ghost use Rattle.std.specs.Prelude.{◌≡◌, ◌+◌, ◌*◌, ◌/◌, ◌%◌, ◌^◌, ◌≤◌, length};
 ghost use Rattle.rules.specs.Building.{literal_of};
 ghost use Rattle.slots.specs.Slot.{slot_of, value_of, Put};

@@ -1,4 +1,6 @@
 // Text: the image's and, after it, what was built in this run. A part that reaches past the end is as long as there is text.
+#![tactic(auto)]
+
 ghost use Rattle.std.specs.Prelude.{◌≡◌, ◌+◌, ◌-◌, ◌≤◌, leb, length};
 ghost use Rattle.std.proofs.Math.Seq.{slice};
 ghost use Rattle.std.proofs.lemmas.List.Edits.{sets};

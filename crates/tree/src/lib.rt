@@ -3,7 +3,7 @@
 
 ghost use Rattle.std.specs.Prelude.{◌≡◌, ◌≤◌, ◌<◌, [], ◌∷◌, length, get_or, true, not, ◌||◌, eqb};
 ghost use Rattle.packed.specs.Layout.{size_of, node_at};
-ghost use Rattle.tree.specs.Tree.{named as named_of, names_of, bodies as bodiesOf, node_names, heading as headingOf, marked, says, chain_by, goes as goesOf, parts as parts_of, names_well, is_named_well, node_right, lowest_fault, Added, Holds, Surveyed, GoodNodes};
+ghost use Rattle.tree.specs.Tree.{named as named_of, names_of, bodies as bodies_of, node_names, heading as heading_of, marked, says, chain_by, goes as goes_of, parts as parts_of, names_well, is_named_well, node_right, lowest_fault, Added, Holds, Surveyed, GoodNodes};
 ghost use Rattle.kinds.specs.Kinds.{is_of};
 ghost use Rattle.records.specs.Records.{node_good};
 
@@ -42,7 +42,7 @@ fn named(role: Role, x: u16) -> u16
 
 // The kind of a node whose field a heads a chain, else 0.
 fn heading(kind: u8, role: Role) -> u8
-    ensures { result ≡ headingOf kind role }
+    ensures { result ≡ heading_of kind role }
 {
     if let Role::Node(_, heads, _) = role {
         if heads { kind } else { 0 }
@@ -89,8 +89,8 @@ fn mark_node(chains: &mut [u8; 4096], n: u16, d: Node)
 
 fn count_bodies(image: &[u8], h: Header, names: &mut [u8; 4096], bodies: &mut [u8; 4096])
     requires { (size_of h ≤ length image.now) × (length names.old ≡ 4096) × (length bodies.old ≡ 4096) }
-    ensures of_names { Added names.old names.new (bodiesOf image.now h.functions) }
-    ensures of_bodies { Added bodies.old bodies.new (bodiesOf image.now h.functions) }
+    ensures of_names { Added names.old names.new (bodies_of image.now h.functions) }
+    ensures of_bodies { Added bodies.old bodies.new (bodies_of image.now h.functions) }
 {
     let functions = h.functions as usize;
     let mut f = 0;
@@ -120,7 +120,7 @@ fn survey(image: &[u8], h: Header, names: &mut [u8; 4096], chains: &mut [u8; 409
 // Whether what node n names in a field of that role goes to a greater number and to a kind that fits.
 fn goes(image: &[u8], h: Header, n: u16, role: Role, x: u16) -> bool
     requires { (named_of role x ≤ h.nodes) × (size_of h ≤ length image.now) }
-    ensures { result ≡ goesOf image.now h n role x }
+    ensures { result ≡ goes_of image.now h n role x }
 {
     match role {
         Role::Unlisted => x == 0,

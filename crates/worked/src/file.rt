@@ -1,5 +1,5 @@
 // A file of lines: one that begins with # is text, every other one a case.
-ghost use Rattle.std.specs.Prelude.{◌≡◌, length, IfOk};
+ghost use Rattle.std.specs.Prelude.{◌≡◌, length};
 ghost use Rattle.io.specs.Counts.{IsPrefixLen};
 
 use crate::case;
@@ -133,34 +133,29 @@ fn opened<R: Files>(rt: &R, name: &[u8]) -> io::Result<R::File> {
     }
 }
 
-// Reads until there is no room or the file ends; how many bytes were read.
-fn read_full(file: &mut impl Read, text: &mut [u8]) -> io::Result<usize>
-    ensures { IfOk result (λ n. IsPrefixLen n text.new) }
+// Reads until there is no room, the file ends or a read fails; how many bytes were read.
+fn read_full(file: &mut impl Read, text: &mut [u8]) -> usize
+    ensures { IsPrefixLen result text.new }
 {
     let mut done = 0;
     while done < text.len() {
-        let n = file.read(&mut text[done..])?;
+        let Ok(n) = file.read(&mut text[done..]) else {
+            return done;
+        };
         if n == 0 {
-            return Ok(done);
+            return done;
         }
         done += n;
     }
-    Ok(done)
+    done
 }
 
-fn read(rt: &impl Files, name: &[u8], text: &mut [u8]) -> io::Result<usize>
-    ensures { IfOk result (λ n. IsPrefixLen n text.new) }
-{
-    let mut file = opened(rt, name)?;
-    read_full(&mut file, text)
-}
-
-// How many bytes were read; none, and it is told, where the file cannot be opened or read.
+// How many bytes were read; none, and it is told, where the file cannot be opened.
 fn loaded(rt: &impl Files, stderr: &impl Print, name: &[u8], text: &mut [u8]) -> usize
     ensures { IsPrefixLen result text.new }
 {
-    match read(rt, name, text) {
-        Ok(length) => length,
+    match opened(rt, name) {
+        Ok(mut file) => read_full(&mut file, text),
         Err(why) => {
             let mut page = [0u8; 256];
             let told = bytes(

@@ -1,4 +1,4 @@
--- `fields::has_room_lem` meets its contract: a number is below 2 ^ width exactly if nothing is left of it past `width` bits. Assumes nothing.
+-- `fields::has_room` meets its contract: a number is below 2 ^ width exactly if nothing is left of it past `width` bits. Assumes nothing.
 use mathlib.Core.Path.{◌≡◌, sym, subst}
 use Prim.Native.Nat.{ℕ, ◌<◌, ◌/◌, ◌^◌}
 use native.Mathlib.Nat.{one-mul, div-lt_iff_lt-mul, div-eq_of_lt}

@@ -1,4 +1,4 @@
--- `pouring::has_room_lem` meets its contract: bits have room exactly if the bytes that they touch are there. Assumes nothing.
+-- `pouring::has_room` meets its contract: bits have room exactly if the bytes that they touch are there. Assumes nothing.
 use mathlib.Core.Path.{sym}
 use Prim.Native.Nat.{◌+◌, ◌-◌, ◌*◌, ◌/◌}
 use native.Mathlib.Omega.{arith}

@@ -7,13 +7,6 @@ use Rattle.rules.specs.Building.{literal_of}
 use borrow.Author.Rules.{rules}
 use Rattle.slots.proofs.literal_of.Statement.{statement}
 use Rattle.slots.proofs.literal_of.Tie as tie
-use Rattle.slots.proofs.literal_of.Reads as reads
-use Rattle.slots.proofs.literal_of.Lts as lts
-use Rattle.numbers.proofs.word.word_to_float.Reads as word-to-float-reads
-use Rattle.numbers.proofs.word.word_to_int.Reads as word-to-int-reads
-use Rattle.slots.proofs.length_of.Reads as length-of-reads
-use Rattle.slots.proofs.low.Reads as low_reads
-use Rattle.slots.proofs.start_of.Reads as start-of-reads
 
 word_to_int-requires : tie.Need-word_to_int-requires
 word_to_int-requires c κs = search rules

@@ -8,9 +8,6 @@ use Rattle.slots.proofs.Rows.{stores_2}
 use borrow.Author.Rules.{rules}
 use Rattle.slots.proofs.put_slot.Statement.{statement}
 use Rattle.slots.proofs.put_slot.Tie as tie
-use Rattle.slots.proofs.put_slot.Reads as reads
-use Rattle.slots.proofs.put_slot.Lts as lts
-use Rattle.slots.proofs.slot_of.Reads as slot-of-reads
 
 slot_of-slot-requires : tie.Need-slot_of-slot-requires
 slot_of-slot-requires c κs = search rules

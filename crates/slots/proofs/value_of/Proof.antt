@@ -4,10 +4,6 @@ use Rattle.slots.specs.Slot.{value_of}
 use borrow.Author.Rules.{rules}
 use Rattle.slots.proofs.value_of.Statement.{statement}
 use Rattle.slots.proofs.value_of.Tie as tie
-use Rattle.slots.proofs.value_of.Reads as reads
-use Rattle.slots.proofs.value_of.Lts as lts
-use Rattle.slots.proofs.literal_of.Reads as literal-of-reads
-use Rattle.slots.proofs.low.Reads as low_reads
 
 low-requires : tie.Need-low-requires
 low-requires c κs = search rules

@@ -1,4 +1,4 @@
--- `texts::has_room_lem` meets its contract: `room_so`. Assumes nothing.
+-- `texts::has_room` meets its contract: `room_so`. Assumes nothing.
 use mathlib.Core.Path.{sym}
 use Prim.Native.Nat.{◌+◌}
 use native.Mathlib.Omega.{arith}
