@@ -1,6 +1,6 @@
 #!/usr/bin/env python3
 """Brings the repository's own definitions and lemmas to the spelling of today's Rattle: words in snake case, a dash only where a
-lemma on lists joins the names of two functions, the proof of a function `f` as `f_spec`. Run once at the top, after /opt/rattle/port/port.py.
+lemma on lists joins the names of two functions, the proof of a function `f` as `f_spec`. Run once at the top, after the toolchain's port.py.
 
 Functions of src/, exported names, strings and comments' sentences keep their words. Types and facts were in camel case already.
 """

@@ -1,7 +1,7 @@
 #!/usr/bin/env python3
 """Turns the names that Rattle makes in each proofs/F/Proof.antt of a crate to today's.
 
-usage, in a crate's folder:  rt check --generated /tmp/names --old-names; python3 ../../tools/turn_proofs.py /tmp/names/names.json [F ..]
+usage, in a crate's folder:  rt check --generated FOLDER --old-names; python3 ../../tools/turn_proofs.py FOLDER/names.json [F ..]
 """
 import json
 import os
