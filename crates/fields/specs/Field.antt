@@ -1,7 +1,5 @@
 -- What a field of bit-packed bytes is. Bits count from 0, the most significant bit of the first byte first; past the end they are 0.
-use Rattle.std.specs.Prelude.{ℕ, zero, suc, ◌+◌, ◌-◌, ◌*◌, ◌/◌, ◌%◌, ◌^◌, ◌≤◌, ◌<◌, ◌≡◌, ◌⊎◌, Bool, true, false, ◌&&◌, cond, List, leb, ltb, get_or, length}
-use Rattle.fields.specs.declared.Read.{Read}
-use Rattle.fields.specs.declared.Read.TheVariants.{Is, Outside}
+use Rattle.std.specs.Prelude.{ℕ, zero, suc, ◌+◌, ◌-◌, ◌*◌, ◌/◌, ◌%◌, ◌^◌, ◌≤◌, ◌<◌, ◌≡◌, ◌⊎◌, Bool, true, false, ◌&&◌, cond, List, leb, ltb, get_or, length, Option, Some, None}
 
 -- bit i of the bytes
 unfoldable pub bit_at : List ℕ → ℕ → ℕ
@@ -17,8 +15,8 @@ unfoldable pub is_within : List ℕ → ℕ → ℕ → Bool
 is_within bytes bit width = leb width 64 && leb (bit + width) (8 * length bytes)
 
 -- what a read gives
-unfoldable pub read_of : List ℕ → ℕ → ℕ → Read
-read_of bytes bit width = cond (is_within bytes bit width) (Is (field_of bytes bit width)) Outside
+unfoldable pub read_of : List ℕ → ℕ → ℕ → Option ℕ
+read_of bytes bit width = cond (is_within bytes bit width) (Some (field_of bytes bit width)) None
 
 -- `after` is `before` with `value` in the field of `width` bits at `bit`, and every other bit as it was
 pub record Put (before after : List ℕ) (bit width value : ℕ) : Type 0 where

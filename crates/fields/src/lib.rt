@@ -4,13 +4,6 @@
 ghost use Rattle.std.specs.Prelude.{◌≡◌, ltb, ◌+◌, ◌-◌, ◌*◌, ◌/◌, ◌%◌, ◌^◌, ◌≤◌, ◌<◌, length, get_or};
 ghost use Rattle.fields.specs.Field.{field_of, is_within, read_of, Put, Wrote, Mixed};
 
-// What a read finds: the field's number, or that the bytes do not have it whole.
-#[derive(Clone, Copy)]
-pub enum Read {
-    Is(u64),
-    Outside,
-}
-
 fn wide(x: u8) -> u64
     ensures { (result ≡ x) × (result < 256) }
 {
@@ -125,14 +118,14 @@ fn within(bytes: &[u8], bit: usize, width: u32) -> bool
     bit / 8 + used <= bytes.len()
 }
 
-// The number that `width` bits from a bit's place make.
-pub fn field(bytes: &[u8], bit: usize, width: u32) -> Read
+// The number that `width` bits from a bit's place make; none where the bytes do not have the field whole.
+pub fn field(bytes: &[u8], bit: usize, width: u32) -> Option<u64>
     ensures { result ≡ read_of bytes.now bit width }
 {
     if !within(bytes, bit, width) {
-        return Read::Outside;
+        return None;
     }
-    Read::Is(field_at(bytes, bit, width))
+    Some(field_at(bytes, bit, width))
 }
 
 // A byte with v for the t bits that have s bits after them.
