@@ -1,9 +1,7 @@
--- What was sought, by its number.
-use Rattle.std.specs.Prelude.{ℕ}
-use Rattle.std.proofs.Math.Option.{Option, some, none}
-use Rattle.stores.specs.declared.Found.{Found}
-use Rattle.stores.specs.declared.Found.TheVariants.{At, Nothing}
+-- What was sought, by its number: the rules' option as the language's.
+use Rattle.std.specs.Prelude.{ℕ, Option, Some, None}
+use Rattle.std.proofs.Math.Option.{Option as Sought, some, none}
 
-abbrev pub found_of : Option ℕ → Found
-found_of none = Nothing
-found_of (some i) = At i
+abbrev pub found_of : Sought ℕ → Option ℕ
+found_of none = None
+found_of (some i) = Some i

@@ -3,10 +3,3 @@
 
 pub mod pending; // pending items
 pub mod run; // the run's numbers
-
-// What was sought, by its number.
-#[derive(Clone, Copy)]
-pub enum Found {
-    At(usize),
-    Nothing,
-}
