@@ -15,7 +15,7 @@ use lib.ListN.{length, set, take, drop, length-append}
 use lib.Seq.{sets, sets-eq, set_comm, length-sets, length-take-le, take_at, take-set-le}
 use borrow.Author.Tests.{lt-ltb, le-ltb, le-leb, lt-leb, ltb-true, leb-true, leb-false}
 use Rattle.numbers.specs.Decimal.{digits, digits_of, decimal_of, has_room, put_of, end_of}
-use Rattle.numbers.specs.declared.decimal.Put.TheVariants.{End, NoRoom}
+use Rattle.std.specs.Prelude.{Some, None}
 
 -- ---- the digits of a number, by its last one
 
@@ -137,28 +137,28 @@ put_pos (negsuc a) l m at t e = absurd (true≢false t)
 -- ---- room
 
 module _ (l : List ℕ) (at : ℕ) (text : List ℕ) where
-  pub no_room : length l < at + length text → (NoRoom ≡ end_of l at text) × (l ≡ put_of l at text)
+  pub no_room : length l < at + length text → (None ≡ end_of l at text) × (l ≡ put_of l at text)
   unfolding end_of put_of
   no_room h = rw (lt-leb (at + length text) (length l) h) (refl, refl)
 
-  pub room : (m : List ℕ) → at + length text ≤ length l → m ≡ sets l at text → (End (at + length text) ≡ end_of l at text) × (m ≡ put_of l at text)
+  pub room : (m : List ℕ) → at + length text ≤ length l → m ≡ sets l at text → (Some (at + length text) ≡ end_of l at text) × (m ≡ put_of l at text)
   unfolding end_of put_of
   room m h e = rw (le-leb (at + length text) (length l) h) (refl, e ∙ sets-eq text l at h)
 
   -- what a caller learns from an end, and from there being none
-  pub ended : {n : ℕ} → End n ≡ end_of l at text → (n ≡ at + length text) × (n ≤ length l)
+  pub ended : {n : ℕ} → Some n ≡ end_of l at text → (n ≡ at + length text) × (n ≤ length l)
   unfolding end_of
   ended {n} e = go (has_room l at text) refl e
     where
-      go : (t : Bool) → has_room l at text ≡ t → End n ≡ cond t (End (at + length text)) NoRoom → (n ≡ at + length text) × (n ≤ length l)
+      go : (t : Bool) → has_room l at text ≡ t → Some n ≡ cond t (Some (at + length text)) None → (n ≡ at + length text) × (n ≤ length l)
       go true r i = let same : n ≡ at + length text = cc in (same, omega (arith, leb-true (at + length text) (length l) r))
       go false r i = let z : ◌≡◌ {A = ℕ} 0 1 = cc in absurd (omega arith)
 
-  pub not_ended : NoRoom ≡ end_of l at text → length l < at + length text
+  pub not_ended : None ≡ end_of l at text → length l < at + length text
   unfolding end_of
   not_ended e = go (has_room l at text) refl e
     where
-      go : (t : Bool) → has_room l at text ≡ t → NoRoom ≡ cond t (End (at + length text)) NoRoom → length l < at + length text
+      go : (t : Bool) → has_room l at text ≡ t → None ≡ cond t (Some (at + length text)) None → length l < at + length text
       go true r i = let z : ◌≡◌ {A = ℕ} 0 1 = cc in absurd (omega arith)
       go false r i = leb-false (at + length text) (length l) r
 

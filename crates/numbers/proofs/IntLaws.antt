@@ -4,10 +4,6 @@ use mathlib.Core.Bool.{Bool, true, false, cond, ◌&&◌, ◌||◌, true≢false
 use Prim.Native.Nat.{ℕ, zero, suc, ◌+◌, ◌-◌, ◌*◌, ◌/◌, ◌^◌, ◌<◌, ◌≤◌}
 use native.Mathlib.Nat.{le-div_iff_mul-le, div-le_self, div-lt_self, le_trans, mul-le-mul, mul-zero}
 use native.Mathlib.Omega.{arith}
-use mathlib.Core.List.{[], ◌∷◌}
-use types.Run.{OneOf, miss}
-use denote.Enum.Declared.{tag_of}
-use Rattle.numbers.specs.contracts.Arith.{the_type}
 use lib.Dec.{T, leb, ltb, eqb, lit≤, leb-zero, leb-suc-suc}
 use lib.IntN.{ℤ, pos, negsuc, neg_ℤ, nat_abs, sub_ℕ, ◌-ℤ◌, ◌*ℤ◌}
 use lib.Signed.{mag, lt_z, le_z, non_neg, quot_z}
@@ -15,19 +11,11 @@ use mir.Syntax.{w64}
 use mir.Val.{SFits, to_z, of_z}
 use mir.Facts.{to_z-of_z}
 use borrow.Author.Tests.{leb-true, leb-false, le-leb, eqb-true, eqb-false, eq-eqb, ne_eqb}
+use Rattle.numbers.specs.declared.ArithRefusal.{ArithRefusal}
 use Rattle.numbers.specs.declared.ArithRefusal.TheVariants.{Overflow, ShiftOperand}
-use Rattle.numbers.specs.declared.Arith.{Arith}
-use Rattle.numbers.specs.declared.Arith.TheVariants.{Value, Refused}
+use Rattle.std.specs.Prelude.{Result, Ok, Err}
 use Rattle.numbers.specs.Ints.{in_i64, exact_of, eq_z, least, shift_of}
 use Rattle.numbers.proofs.Linear.{sub_parts, same_parts, fits_in, range}
-
--- ---- answers
-
-pub answered : (z : ℤ) → in_i64 z ≡ true → Value (to_z w64 (of_z w64 z)) ≡ exact_of z
-answered z e = rw (e, to_z-of_z (fits_in z e))
-
-pub refused : (z : ℤ) → in_i64 z ≡ false → Refused Overflow ≡ exact_of z
-refused z e = rw e
 
 -- ---- magnitudes
 
@@ -162,9 +150,9 @@ pub record Shift (y k : ℤ) : Type 0 where
   pub operand : k ≡ y
   pub bits : of_z w64 y ≡ nat_abs y
   pub below : of_z w64 y < 64
-  pub value : (z : ℤ) → shift_of y z ≡ Value z
+  pub value : (z : ℤ) → shift_of y z ≡ Ok z
 
-pub shift : (y k : ℤ) → shift_of y y ≡ Value k → Shift y k
+pub shift : (y k : ℤ) → shift_of y y ≡ Ok k → Shift y k
 shift (negsuc b) k e = let z : ◌≡◌ {A = ℕ} 0 1 = cc in absurd (omega arith)
 shift (pos b) k e = go (ltb b 0 || ltb 4294967295 b) refl (leb 64 b) refl
   where
@@ -179,10 +167,10 @@ shift (pos b) k e = go (ltb b 0 || ltb 4294967295 b) refl (leb 64 b) refl
     }
 
 -- a refused operand is refused in every shift
-pub no_shift : (y z : ℤ) (a : Arith) → OneOf (1 ∷ 2 ∷ []) (tag_of the_type a) → a ≡ shift_of y y → a ≡ shift_of y z
-no_shift y z a k e = go (lt_z y (pos 0) || lt_z (pos 4294967295) y) (le_z (pos 64) y) e
+pub no_shift : (y z : ℤ) (why : ArithRefusal) → Err why ≡ shift_of y y → Err why ≡ shift_of y z
+no_shift y z why e = go (lt_z y (pos 0) || lt_z (pos 4294967295) y) (le_z (pos 64) y) e
   where
-    go : (p q : Bool) → a ≡ cond p (Refused ShiftOperand) (cond q (Refused Overflow) (Value y)) → a ≡ cond p (Refused ShiftOperand) (cond q (Refused Overflow) (Value z))
+    go : (p q : Bool) → Err why ≡ cond p (Err ShiftOperand) (cond q (Err Overflow) (Ok y)) → Err why ≡ cond p (Err ShiftOperand) (cond q (Err Overflow) (Ok z))
     go true q i = i
     go false true i = i
-    go false false i = absurd (miss (1 ∷ 2 ∷ []) 0 tt (rw i at k))
+    go false false i = let n : ◌≡◌ {A = ℕ} 0 1 = cc in absurd (omega arith)

@@ -1,7 +1,5 @@
 -- An integer in decimal, as bytes, and bytes put at a place of a store. 48 is the byte of `0`, and 45 that of `-`.
-use Rattle.std.specs.Prelude.{Bool, cond, List, [], ◌∷◌, ◌++◌, ℕ, zero, suc, ◌+◌, ◌/◌, ◌%◌, ltb, leb, ℤ, pos, negsuc, length, take, drop}
-use Rattle.numbers.specs.declared.decimal.Put.{Put}
-use Rattle.numbers.specs.declared.decimal.Put.TheVariants.{End, NoRoom}
+use Rattle.std.specs.Prelude.{Bool, cond, Option, Some, None, List, [], ◌∷◌, ◌++◌, ℕ, zero, suc, ◌+◌, ◌/◌, ◌%◌, ltb, leb, ℤ, pos, negsuc, length, take, drop}
 
 -- the digits of n, by no more than so many divisions
 unfoldable pub digits : ℕ → ℕ → List ℕ
@@ -25,5 +23,5 @@ has_room store at text = leb (at + length text) (length store)
 unfoldable pub put_of : List ℕ → ℕ → List ℕ → List ℕ
 put_of store at text = cond (has_room store at text) (take at store ++ text ++ drop (at + length text) store) store
 
-unfoldable pub end_of : List ℕ → ℕ → List ℕ → Put
-end_of store at text = cond (has_room store at text) (End (at + length text)) NoRoom
+unfoldable pub end_of : List ℕ → ℕ → List ℕ → Option ℕ
+end_of store at text = cond (has_room store at text) (Some (at + length text)) None

@@ -3,15 +3,6 @@ ghost use Rattle.std.specs.Prelude.{◌≡◌, ◌-◌, ◌≤◌, length};
 ghost use Rattle.std.proofs.lemmas.List.Edits.{sets};
 ghost use Rattle.numbers.specs.Decimal.{digits_of, decimal_of, put_of, end_of};
 
-use crate::int::unsigned_abs;
-
-// Where a text that was put ends, or that there is no room for it.
-#[derive(Clone, Copy)]
-pub enum Put {
-    End(usize),
-    NoRoom,
-}
-
 fn digits_len(n: u64) -> usize
     ensures { (result ≡ length (digits_of n)) × (result ≤ 20) }
 {
@@ -27,7 +18,7 @@ fn digits_len(n: u64) -> usize
 pub fn decimal_len(x: i64) -> usize
     ensures { (result ≡ length (decimal_of x)) × (result ≤ 20) }
 {
-    let digits = digits_len(unsigned_abs(x));
+    let digits = digits_len(x.unsigned_abs());
     if x >= 0 {
         return digits;
     }
@@ -50,21 +41,21 @@ fn put_digits(out: &mut [u8], end: usize, n: u64)
 }
 
 // Puts x at `at` and gives the end, or changes nothing where it has no room.
-pub fn put_decimal(out: &mut [u8], at: usize, x: i64) -> Put
+pub fn put_decimal(out: &mut [u8], at: usize, x: i64) -> Option<usize>
     ensures end { result ≡ end_of out.old at (decimal_of x) }
     ensures bytes { out.new ≡ put_of out.old at (decimal_of x) }
 {
     let len = decimal_len(x);
     if out.len() < len {
-        return Put::NoRoom;
+        return None;
     }
     if out.len() - len < at {
-        return Put::NoRoom;
+        return None;
     }
     let end = at + len;
-    put_digits(out, end, unsigned_abs(x));
+    put_digits(out, end, x.unsigned_abs());
     if x < 0 {
         out[at] = b'-';
     }
-    Put::End(end)
+    Some(end)
 }

@@ -4,25 +4,16 @@ ghost use Rattle.std.specs.Float.{nan};
 ghost use Rattle.numbers.specs.Words.{word_of, int_of};
 ghost use Rattle.numbers.specs.Floats.{float_word_of, float_of};
 
-use crate::int::unsigned_abs;
-
 pub fn int_to_word(x: i64) -> u64
     ensures { result ≡ word_of x }
 {
-    let n = unsigned_abs(x);
-    if x >= 0 {
-        return n;
-    }
-    u64::MAX - n + 1
+    x.cast_unsigned()
 }
 
 pub fn word_to_int(w: u64) -> i64
     ensures { result ≡ int_of w }
 {
-    if w < 9223372036854775808 {
-        return w as i64;
-    }
-    -1 - (u64::MAX - w) as i64
+    w.cast_signed()
 }
 
 // The language gives no bits for a NaN: it is told by x != x.
