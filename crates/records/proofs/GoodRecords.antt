@@ -7,18 +7,17 @@ use native.Mathlib.Omega.{arith}
 use Rattle.std.proofs.Common.{zero-le}
 use borrow.Author.Tests.{not-false, lt-ltb, le-ltb}
 use Rattle.packed.specs.declared.layout.Header.{Header}
-use Rattle.records.specs.declared.first.Found.{Found}
-use Rattle.records.specs.declared.first.Found.TheVariants.{At, Nowhere}
+use Rattle.std.proofs.Common.{Option, Some, None}
 use Rattle.records.specs.First.{first_from}
 use Rattle.packed.specs.Layout.{function_at, node_at}
 use Rattle.records.specs.Records.{function_good, node_good, literal_good, record_good, record_bad, record_offset, records_in, placed, bad_record}
 use Rattle.records.proofs.Search.{nowhere}
 
-pub placed_nowhere : (f : ℕ → ℕ) (x : Found) → placed f x ≡ Nowhere → x ≡ Nowhere
-placed_nowhere f (At r) e = let z : ◌≡◌ {A = ℕ} 0 1 = cc in absurd (omega arith)
-placed_nowhere f Nowhere e = e
+pub placed_nowhere : (f : ℕ → ℕ) (x : Option ℕ) → placed f x ≡ None → x ≡ None
+placed_nowhere f (Some r) e = let z : ◌≡◌ {A = ℕ} 0 1 = cc in absurd (omega arith)
+placed_nowhere f None e = e
 
-module _ (image : List ℕ) (h : Header) (none : bad_record image h ≡ Nowhere) where
+module _ (image : List ℕ) (h : Header) (none : bad_record image h ≡ None) where
   pub record_good_lem : (r : ℕ) → r < records_in h → record_good image h r ≡ true
   unfolding bad_record
   record_good_lem r l =

@@ -1,5 +1,5 @@
 -- Refusal 3, "first bad record: range, op, zero bits, literal", at "its byte offset".
-use Rattle.std.specs.Prelude.{ℕ, ◌+◌, ◌-◌, Bool, true, false, not, ◌&&◌, ◌||◌, cond, List, leb, ltb, eqb}
+use Rattle.std.specs.Prelude.{ℕ, ◌+◌, ◌-◌, Bool, true, false, not, ◌&&◌, ◌||◌, cond, List, leb, ltb, eqb, Option, Some, None}
 use Rattle.std.proofs.Math.Seq.{slice}
 use Rattle.utf8.specs.Utf8.{utf8_of}
 use Rattle.packed.specs.declared.layout.Header.{Header}
@@ -8,8 +8,6 @@ use Rattle.packed.specs.declared.layout.Node.{Node}
 use Rattle.packed.specs.declared.layout.Part.{Part}
 use Rattle.kinds.specs.declared.Role.{Role}
 use Rattle.kinds.specs.declared.Role.TheVariants.{Unlisted, Number, Literal, Text, Function as FunctionRole, Node as NodeRole}
-use Rattle.records.specs.declared.first.Found.{Found}
-use Rattle.records.specs.declared.first.Found.TheVariants.{At, Nowhere}
 use Rattle.records.specs.First.{first_from}
 use Rattle.packed.specs.Layout.{text_at, size_of, function_offset, node_offset, literal_offset, function_at, node_at, literal_at, part_at}
 use Rattle.kinds.specs.Kinds.{is_within, row_of, tag_role}
@@ -86,12 +84,12 @@ abbrev pub records_in : Header → ℕ
 records_in h = h.functions + h.nodes + h.literals
 
 -- where what was found stands
-abbrev pub placed : (ℕ → ℕ) → Found → Found
-placed place (At r) = At (place r)
-placed place Nowhere = Nowhere
+abbrev pub placed : (ℕ → ℕ) → Option ℕ → Option ℕ
+placed place (Some r) = Some (place r)
+placed place None = None
 
 abbrev pub record_bad : List ℕ → Header → ℕ → Bool
 record_bad image h r = not (record_good image h r)
 
-unfoldable pub bad_record : List ℕ → Header → Found
+unfoldable pub bad_record : List ℕ → Header → Option ℕ
 bad_record image h = placed (record_offset h) (first_from (record_bad image h) 0 (records_in h))
