@@ -1,4 +1,3 @@
-pub mod Linear
 pub mod IntLaws
 pub mod WordLaws
 pub mod FloatLaws
