@@ -1,62 +1,51 @@
--- The laws of text: room for it, where a part of it stands in the image and among what was built, and what putting it leaves. Assumes nothing.
+-- The laws of text: where a part of it stands in the image and among what was built, and what putting it leaves. Assumes nothing.
 use mathlib.Core.Path.{◌≡◌, sym, ap, ap₂, ◌∙◌}
-use mathlib.Core.Bool.{Bool, true, false, not}
-use mathlib.Core.Logic.{◌≢◌}
-use mathlib.Core.List.{List, ◌++◌}
+use mathlib.Core.List.{List, ◌++◌, append_assoc}
 use Prim.Native.Nat.{ℕ, ◌+◌, ◌-◌, ◌≤◌, ◌<◌}
 use native.Mathlib.Decide.{dec_le}
 use native.Mathlib.Omega.{arith}
-use borrow.Author.Tests.{le-leb, lt-leb, leb-true, leb-false, not-true, not-false}
-use lib.Dec.{leb}
+use borrow.Author.Tests.{le-leb}
+use borrow.Rule.Slice.PartMut.{put_mid}
 use lib.ListN.{length, take, drop, length-append}
-use lib.Seq.{sets, slice}
+use lib.Seq.{slice, drop-drop, length-take-le, take_at}
+use Rattle.std.specs.List.{copy_within}
+use Rattle.std.specs.Prelude.{min}
+use Rattle.std.proofs.lemmas.Slice.{drop-append-drop}
 use Rattle.packed.specs.declared.layout.Header.{Header}
 use Rattle.packed.specs.Layout.{text_at, size_of}
 use Rattle.numbers.specs.declared.decimal.Put.TheVariants.{End, NoRoom}
 use Rattle.numbers.specs.Decimal.{put_of, end_of}
-use Rattle.numbers.proofs.DecimalLaws.{room, no_room, take-sets}
-use Rattle.rules.specs.Store.{image_text, part_text, same_text}
-use Rattle.rules.specs.Output.{ascending}
+use Rattle.numbers.proofs.DecimalLaws.{no_room, take_put}
+use Rattle.rules.specs.Store.{image_text}
 use Rattle.texts.specs.declared.Span.{Span}
 use Rattle.texts.specs.declared.Sources.{Sources}
-use Rattle.texts.specs.Text.{Spans, first_part, image_part, literal_part, pool_text, Sourced}
+use Rattle.texts.specs.Text.{bytes_of, Spans, first_part, image_part, pool_text, Sourced}
 use Rattle.stores.proofs.Views.{drop-take}
-use Rattle.texts.proofs.Parts.{length_part, first_none, first_left, first_all, part_of_rest, part_of_both, sets_both, other_text}
+use Rattle.texts.proofs.Parts.{length_part, first_part_is, part_of_rest, part_of_both}
 
--- ---- room, as it is tested
+-- ---- a text put where there is room for it
 
-pub room_so : (at count total : ℕ) → count ≤ total → leb at (total - count) ≡ leb (at + count) total
-room_so at count total h = go (dec_le (at + count) total)
-  where
-    go : Dec (at + count ≤ total) → leb at (total - count) ≡ leb (at + count) total
-    go (yes p) = le-leb at (total - count) (omega arith) ∙ sym (le-leb (at + count) total p)
-    go (no p) = lt-leb at (total - count) (omega arith) ∙ sym (lt-leb (at + count) total (omega arith))
+module _ (bytes : List ℕ) (at : ℕ) (text : List ℕ) where
+  pub end_is : (count : ℕ) → length text ≡ count → at + count ≤ length bytes → End (at + count) ≡ end_of bytes at text
+  unfolding end_of
+  end_is count e h = rw (e, le-leb (at + count) (length bytes) h)
 
-module _ (r : Bool) (at count total : ℕ) (e : r ≡ leb (at + count) total) where
-  pub lacks_room : not r ≡ true → total < at + count
-  lacks_room t = leb-false (at + count) total (sym e ∙ not-true r t)
+  put_is : (count : ℕ) → length text ≡ count → at + count ≤ length bytes → put_of bytes at text ≡ take at bytes ++ text ++ drop (at + count) bytes
+  unfolding put_of
+  put_is count e h = rw (e, le-leb (at + count) (length bytes) h)
 
-  pub has_room_lem : not r ≡ false → at + count ≤ total
-  has_room_lem t = leb-true (at + count) total (sym e ∙ not-false r t)
-
-module _ (bytes : List ℕ) (at : ℕ) (text : List ℕ) (count : ℕ) (long : length text ≡ count) where
-  pub put_all : (bytes' : List ℕ) → at + count ≤ length bytes → bytes' ≡ sets bytes at text
-      → (End (at + count) ≡ end_of bytes at text) × (bytes' ≡ put_of bytes at text)
-  put_all bytes' h e =
-      let put = room bytes at text bytes' (omega arith) e in
-      (ap (λ (n : ℕ). End (at + n)) (sym long) ∙ put.0, put.1)
+  pub put_mid_is : (k : ℕ) (put : List ℕ) → put ≡ text → length text ≡ k → at + k ≤ length bytes → put_mid at k bytes put ≡ put_of bytes at text
+  put_mid_is k put same e h =
+      ap₂ (λ (t r : List ℕ). take at bytes ++ (t ++ r)) same (drop-drop k at bytes)
+      ∙ sym (append_assoc (take at bytes) text (drop (at + k) bytes))
+      ∙ sym (put_is k e h)
 
 -- ---- where a part stands
 
-module _ (total start len : ℕ) where
-  pub span_none : total ≤ start → Spans total len (first_part total start len) (record { from = total; count = 0 })
-  span_none h = record { within = omega arith; short = omega arith; is = λ l. first_none total start len l h }
-
-  pub span_left : start < total → total - start < len → Spans total len (first_part total start len) (record { from = start; count = total - start })
-  span_left h g = record { within = omega arith; short = omega arith; is = λ l. first_left total start len l (omega arith) (omega arith) }
-
-  pub span_all : start < total → len ≤ total - start → Spans total len (first_part total start len) (record { from = start; count = len })
-  span_all h g = record { within = omega arith; short = omega arith; is = λ l. first_all total start len l (omega arith) }
+pub spans : (total start len from count : ℕ) → from ≡ min start total → count ≡ min len (total - from)
+    → Spans total len (first_part total start len) (record { from = from; count = count })
+spans total start len from count e g =
+    record { within = omega arith; short = omega arith; is = λ l. first_part_is total start len from count l e g }
 
 pub span_in_image : (h : Header) (start len : ℕ) (r : Span) → Spans h.text len (first_part h.text start len) r
     → Spans (size_of h) len (image_part h start len) (record { from = text_at h + r.from; count = r.count })
@@ -67,37 +56,15 @@ span_in_image h start len r s =
       is = λ image. ap (slice start (start + len)) (drop-take (text_at h) h.text image) ∙ s.is (drop (text_at h) image) ∙ part_of_rest (text_at h) r.from r.count image;
     }
 
-abbrev bytes_at : List ℕ → Span → List ℕ
-bytes_at l r = slice r.from (r.from + r.count) l
-
 span_length : {most n : ℕ} (text : List ℕ → List ℕ) (r : Span) → Spans most n text r → (l : List ℕ) → most ≤ length l → length (text l) ≡ r.count
 span_length text r s l whole = ap length (s.is l) ∙ length_part r.from r.count l (omega (arith, s.within))
 
--- ---- the texts of two literals
-
-module _ (image : List ℕ) (h : Header) (whole : size_of h ≤ length image) (p q m n : ℕ) (a b : Span)
-    (first : Spans (size_of h) m (literal_part h p) a) (second : Spans (size_of h) n (literal_part h q) b) where
-  pub literals_differ : a.count ≢ b.count → false ≡ same_text (part_text image h p) (part_text image h q)
-  literals_differ ne =
-      other_text (part_text image h p) (part_text image h q)
-      (λ e. ne (sym (span_length (literal_part h p) a first image whole) ∙ ap length e ∙ span_length (literal_part h q) b second image whole))
-
-  pub literals_same : a.count ≡ b.count
-      → same_text (bytes_at image a) (slice b.from (b.from + a.count) image) ≡ same_text (part_text image h p) (part_text image h q)
-  literals_same e = rw (first.is image, second.is image, e)
-
-  pub literals_ascend : ascending (bytes_at image a) (bytes_at image b) ≡ ascending (part_text image h p) (part_text image h q)
-  literals_ascend = rw (first.is image, second.is image)
-
 -- ---- a part of the image's text and of what was built
-
-abbrev sources_of : Span → Span → Sources
-sources_of a b = record { image_from = a.from; image_count = a.count; built_from = b.from; built_count = b.count }
 
 module _ (h : Header) (made start len : ℕ) (a b : Span)
     (first : Spans (size_of h) len (image_part h start len) a)
     (second : Spans made (len - a.count) (first_part made (start - h.text) (len - a.count)) b) where
-  pool_is : (image bytes : List ℕ) → size_of h ≤ length image → pool_text image h made bytes start len ≡ bytes_at image a ++ bytes_at bytes b
+  pool_is : (image bytes : List ℕ) → size_of h ≤ length image → pool_text image h made bytes start len ≡ bytes_of a image ++ bytes_of b bytes
   unfolding pool_text
   pool_is image bytes whole =
       let total : length (image_text image h) ≡ h.text = length_part (text_at h) h.text image whole in
@@ -108,7 +75,7 @@ module _ (h : Header) (made start len : ℕ) (a b : Span)
       (ap₂ (λ (s n : ℕ). slice s (s + n) (take made bytes)) (ap (λ (k : ℕ). start - k) total) (ap (λ (k : ℕ). len - k) found)
       ∙ second.is bytes)
 
-  pub sourced : Sourced h made start len (sources_of a b)
+  pub sourced : Sourced h made start len (record { image = a; built = b })
   sourced =
       record {
         in_image = first.within;
@@ -121,23 +88,23 @@ module _ (image : List ℕ) (h : Header) (whole : size_of h ≤ length image) (m
   abbrev text : List ℕ
   text = pool_text image h made bytes start len
 
-  abbrev in_image : List ℕ
-  in_image = slice r.image_from (r.image_from + r.image_count) image
+  abbrev first : List ℕ
+  first = bytes_of r.image image
 
-  abbrev in_built : List ℕ → List ℕ
-  in_built l = slice r.built_from (r.built_from + r.built_count) l
+  abbrev end : ℕ
+  end = r.built.from + r.built.count
 
-  long : length in_image ≡ r.image_count
-  long = length_part r.image_from r.image_count image (omega (arith, from.in_image))
+  long : length first ≡ r.image.count
+  long = length_part r.image.from r.image.count image (omega (arith, from.in_image))
 
-  pool_length : made ≤ length bytes → length text ≡ r.image_count + r.built_count
+  pool_length : made ≤ length bytes → length text ≡ r.image.count + r.built.count
   pool_length enough =
       ap length (from.is image bytes whole)
-      ∙ length-append in_image (in_built bytes)
-      ∙ ap₂ ◌+◌ long (length_part r.built_from r.built_count bytes (omega (arith, from.in_built)))
+      ∙ length-append first (bytes_of r.built bytes)
+      ∙ ap₂ ◌+◌ long (length_part r.built.from r.built.count bytes (omega (arith, from.in_built)))
 
   module _ (at : ℕ) (before : made ≤ at) where
-    pub pool_none : length bytes < at + (r.image_count + r.built_count) → (NoRoom ≡ end_of bytes at text) × (bytes ≡ put_of bytes at text)
+    pub pool_none : length bytes < at + (r.image.count + r.built.count) → (NoRoom ≡ end_of bytes at text) × (bytes ≡ put_of bytes at text)
     pool_none over = go (dec_le made (length bytes))
       where
         go : Dec (made ≤ length bytes) → (NoRoom ≡ end_of bytes at text) × (bytes ≡ put_of bytes at text)
@@ -145,16 +112,29 @@ module _ (image : List ℕ) (h : Header) (whole : size_of h ≤ length image) (m
         go (no p) = no_room bytes at text (omega arith)
 
     -- what was built stands before the copies
-    pub pool_all : (bytes₁ bytes₂ : List ℕ) → at + (r.image_count + r.built_count) ≤ length bytes
-        → bytes₁ ≡ sets bytes at in_image → bytes₂ ≡ sets bytes₁ (at + r.image_count) (in_built bytes₁)
-        → (End (at + (r.image_count + r.built_count)) ≡ end_of bytes at text) × (bytes₂ ≡ put_of bytes at text)
+    pub pool_all : (bytes₁ bytes₂ : List ℕ) → at + (r.image.count + r.built.count) ≤ length bytes
+        → bytes₁ ≡ put_of bytes at first → bytes₂ ≡ copy_within bytes₁ r.built.from end (at + r.image.count)
+        → (End (at + (r.image.count + r.built.count)) ≡ end_of bytes at text) × (bytes₂ ≡ put_of bytes at text)
     pool_all bytes₁ bytes₂ within e₁ e₂ =
-        let end = r.built_from + r.built_count in
-        let same : in_built bytes₁ ≡ in_built bytes =
-        ap (drop r.built_from) (ap (take end) e₁ ∙ take-sets end in_image bytes at (omega (arith, from.in_built))) in
-        put_all bytes at text (r.image_count + r.built_count) (pool_length (omega arith)) bytes₂ within
-        (e₂
-        ∙ ap₂ (λ (l vs : List ℕ). sets l (at + r.image_count) vs) e₁ same
-        ∙ ap (λ (k : ℕ). sets (sets bytes at in_image) (at + k) (in_built bytes)) (sym long)
-        ∙ sym (sets_both in_image (in_built bytes) bytes at)
-        ∙ ap (sets bytes at) (sym (from.is image bytes whole)))
+        let count = r.image.count + r.built.count in
+        let size : length text ≡ count = pool_length (omega arith) in
+        let before_it = take at bytes ++ first in
+        let wide : length before_it ≡ at + r.image.count =
+        length-append (take at bytes) first ∙ ap₂ ◌+◌ (length-take-le at bytes (omega arith)) long in
+        let laid : bytes₁ ≡ before_it ++ drop (at + r.image.count) bytes =
+        e₁ ∙ put_is bytes at first r.image.count long (omega arith) in
+        let front : take (at + r.image.count) bytes₁ ≡ before_it = ap (take (at + r.image.count)) laid ∙ take_at before_it _ _ wide in
+        let built = bytes_of r.built bytes in
+        let middle : take (end - r.built.from) (drop r.built.from bytes₁) ≡ built =
+        ap (λ (k : ℕ). take k (drop r.built.from bytes₁)) (omega arith)
+        ∙ sym (drop-take r.built.from r.built.count bytes₁)
+        ∙ ap (drop r.built.from) (ap (take end) e₁ ∙ take_put bytes at first end (omega (arith, from.in_built))) in
+        let rest : drop (at + r.image.count + (end - r.built.from)) bytes₁ ≡ drop (at + count) bytes =
+        ap₂ drop (omega arith) laid ∙ drop-append-drop (at + r.image.count) bytes before_it (at + count) (omega arith) wide in (
+          end_is bytes at text count size within,
+          e₂
+              ∙ ap₂ ◌++◌ (ap₂ ◌++◌ front middle) rest
+              ∙ ap (λ (l : List ℕ). l ++ drop (at + count) bytes)
+              (append_assoc (take at bytes) first built ∙ ap (λ (l : List ℕ). take at bytes ++ l) (sym (from.is image bytes whole)))
+              ∙ sym (put_is bytes at text count size within),
+        )

@@ -3,16 +3,20 @@ use Rattle.std.specs.Prelude.{ℕ, ◌+◌, ◌≤◌, ◌≡◌, List, ◌++◌
 use Rattle.std.proofs.Math.Seq.{slice}
 use Rattle.packed.specs.declared.layout.Header.{Header}
 use Rattle.packed.specs.Layout.{size_of}
-use Rattle.rules.specs.Store.{Store, image_text, text_of, part_text}
+use Rattle.rules.specs.Store.{Store, image_text, text_of}
 use Rattle.rules.specs.Building.{Made, built_text}
 use Rattle.texts.specs.declared.Span.{Span}
 use Rattle.texts.specs.declared.Sources.{Sources}
+
+-- the bytes of a span
+abbrev pub bytes_of : Span → List ℕ → List ℕ
+bytes_of r l = slice r.from (r.from + r.count) l
 
 -- in any list, a text is the bytes of a span: no more than `len`, and all among the first `most`
 pub record Spans (most len : ℕ) (text : List ℕ → List ℕ) (r : Span) : Type 0 where
   pub within : r.from + r.count ≤ most
   pub short : r.count ≤ len
-  pub is : (l : List ℕ) → text l ≡ slice r.from (r.from + r.count) l
+  pub is : (l : List ℕ) → text l ≡ bytes_of r l
 
 -- a part of the first `total`
 abbrev pub first_part : ℕ → ℕ → ℕ → List ℕ → List ℕ
@@ -22,22 +26,17 @@ first_part total start len l = slice start (start + len) (take total l)
 abbrev pub image_part : Header → ℕ → ℕ → List ℕ → List ℕ
 image_part h start len image = slice start (start + len) (image_text image h)
 
--- the text of a literal
-abbrev pub literal_part : Header → ℕ → List ℕ → List ℕ
-literal_part h payload image = part_text image h payload
-
 -- a part of the image's text and, after it, the first `made` bytes
 unfoldable pub pool_text : List ℕ → Header → ℕ → List ℕ → ℕ → ℕ → List ℕ
 pool_text image h made bytes start len = slice start (start + len) (image_text image h ++ take made bytes)
 
 -- where that part stands in any image and any bytes: no more than `len`, all within the image and among the first `made`
 pub record Sourced (h : Header) (made start len : ℕ) (r : Sources) : Type 0 where
-  pub in_image : r.image_from + r.image_count ≤ size_of h
-  pub in_built : r.built_from + r.built_count ≤ made
-  pub short : r.image_count + r.built_count ≤ len
+  pub in_image : r.image.from + r.image.count ≤ size_of h
+  pub in_built : r.built.from + r.built.count ≤ made
+  pub short : r.image.count + r.built.count ≤ len
   pub is : (image bytes : List ℕ) → size_of h ≤ length image
-      → pool_text image h made bytes start len
-      ≡ slice r.image_from (r.image_from + r.image_count) image ++ slice r.built_from (r.built_from + r.built_count) bytes
+      → pool_text image h made bytes start len ≡ bytes_of r.image image ++ bytes_of r.built bytes
 
 -- "both text, + joins"
 abbrev pub joined : List ℕ → Header → ℕ → ℕ → ℕ → ℕ → ℕ → Store → Made
