@@ -8,7 +8,7 @@ pub mod word;
 
 ghost use Rattle.std.specs.Prelude.{◌≡◌};
 ghost use Rattle.numbers.specs.declared.OpError.TheVariants.{Arithmetic};
-ghost use Rattle.numbers.specs.Ints.{assign_of, binary_int_of};
+ghost use Rattle.numbers.specs.Ints.{assign_of, binary_int_of, number_of};
 ghost use Rattle.numbers.specs.Floats.{binary_float_of};
 
 use int::{checked_add, checked_div, checked_mul, checked_shl, checked_shr, checked_sub};
@@ -19,6 +19,18 @@ pub enum ArithRefusal {
     Overflow,
     Division,
     ShiftOperand,
+}
+
+impl ArithRefusal {
+    pub fn number(self) -> u8
+        ensures { result ≡ number_of self }
+    {
+        match self {
+            ArithRefusal::Overflow => 16,
+            ArithRefusal::Division => 17,
+            ArithRefusal::ShiftOperand => 18,
+        }
+    }
 }
 
 // Why an operation gives no number. `NotConst` is 12. `Unlisted` answers an op that no loaded image has: an assigning one

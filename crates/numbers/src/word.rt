@@ -1,6 +1,5 @@
 // An i64 and an f64 as a word of 64 bits, and back.
 ghost use Rattle.std.specs.Prelude.{◌≡◌};
-ghost use Rattle.std.specs.Float.{nan};
 ghost use Rattle.numbers.specs.Words.{word_of, int_of};
 ghost use Rattle.numbers.specs.Floats.{float_word_of, float_of};
 
@@ -16,31 +15,26 @@ pub fn word_to_int(w: u64) -> i64
     w.cast_signed()
 }
 
-// The language gives no bits for a NaN: it is told by x != x.
+// The language gives no bits for a NaN.
+#[tactic(auto, unfolding(crate::specs::Floats::float_word_of))]
 pub fn float_to_word(x: f64) -> u64
     ensures { result ≡ float_word_of x }
 {
-    if x != x {
+    if x.is_nan() {
         return 0x7ff8_0000_0000_0000;
     }
-    f64::to_bits(x)
-}
-
-fn not_a_number() -> f64
-    ensures { result ≡ nan }
-{
-    0.0 / 0.0
+    x.to_bits()
 }
 
 // An infinity's pattern, the sign aside.
 const INFINITY: u64 = 0x7ff0_0000_0000_0000;
 
-// The patterns above an infinity's, the sign aside, are those of a NaN, which is computed.
+// The patterns above an infinity's, the sign aside, are those of a NaN.
 pub fn word_to_float(w: u64) -> f64
     ensures { result ≡ float_of w }
 {
     if w % 0x8000_0000_0000_0000 > INFINITY {
-        return not_a_number();
+        return f64::NAN;
     }
     f64::from_bits(w)
 }
