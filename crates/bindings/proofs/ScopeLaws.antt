@@ -17,8 +17,7 @@ use Rattle.rules.specs.declared.Value.TheVariants.{Unit as VUnit}
 use Rattle.rules.specs.Store.{Binding, or_else, last_of, unbound, rebound, declared, arguments, opened, with_scope, with_floor, with_bindings}
 use Rattle.stores.specs.View.{rec_at, view}
 use Rattle.slots.specs.Slot.{value_of, slot_of, slot_words, Put}
-use Rattle.stores.specs.declared.Found.{Found}
-use Rattle.stores.specs.declared.Found.TheVariants.{At, Nothing}
+use Rattle.std.specs.Prelude.{Some, None}
 use Rattle.bindings.specs.Scopes.{BoundAt, arguments_bound, Copied}
 use Rattle.stores.specs.Finding.{found_of}
 use Rattle.stores.specs.Stores.{bound_of, scope_of, pending_of, cells_of, slot_in, binding_in, pending_in, bindings_in, pendings_in, store_of, Fits, Became, Tried, BecameRun, BecameWords, TriedWords}
@@ -98,13 +97,13 @@ module _ (words : List ℕ) (name from to i : ℕ) (h : from < i) (sofar : Among
       ∙ last_step name from (i - 1) words (omega arith)
       ∙ ap (λ (t : Bool). or_else (numbered t (i - 1)) (last_of name from (drop from (bindings_in (i - 1) words)))) e
 
-  pub last_found : get_or words (3 * (i - 1) + 2) 0 ≡ name → At (i - 1) ≡ found_of (last_of name from (drop from (bindings_in to words)))
+  pub last_found : get_or words (3 * (i - 1) + 2) 0 ≡ name → Some (i - 1) ≡ found_of (last_of name from (drop from (bindings_in to words)))
   last_found e = sym (ap found_of (before true (eq-eqb _ _ e)))
 
   pub last_passed : (get_or words (3 * (i - 1) + 2) 0 ≡ name → ⊥) → Among words name from to (i - 1)
   last_passed ne = before false (ne_eqb _ _ ne)
 
-pub last_nowhere : (words : List ℕ) (name from to i : ℕ) → i ≤ from → Among words name from to i → Nothing ≡ found_of (last_of name from (drop from (bindings_in to words)))
+pub last_nowhere : (words : List ℕ) (name from to i : ℕ) → i ≤ from → Among words name from to i → None ≡ found_of (last_of name from (drop from (bindings_in to words)))
 last_nowhere words name from to i h sofar = sym (ap found_of (sofar ∙ last_none name from i words h))
 
 -- ---- the value of a binding
@@ -184,46 +183,43 @@ last_within name i (b ∷ bs) k e =
     (λ q. let r = numbered_some (eqb b.name name) i k q in (omega arith, omega arith))
     (or_some (last_of name (suc i) bs) (numbered (eqb b.name name) i) k e)
 
-pub found_below : (name from to : ℕ) (words : List ℕ) (r : Found) (i : ℕ) → r ≡ found_of (last_of name from (drop from (bindings_in to words))) → r ≡ At i → i < to
+pub found_below : (name from to : ℕ) (words : List ℕ) (i : ℕ) → Some i ≡ found_of (last_of name from (drop from (bindings_in to words))) → i < to
 unfolding bindings_in
-found_below name from to words r i found at =
+found_below name from to words i found =
     let bs = view binding_in 0 3 to words in
-    let w = last_within name from (drop from bs) i (found_some (last_of name from (drop from bs)) i (sym at ∙ found)) in
+    let w = last_within name from (drop from bs) i (found_some (last_of name from (drop from bs)) i found) in
     omega (arith, w.0, w.1, length-drop from bs, length-view binding_in 0 3 to words)
 
 -- the last binding of a name in the innermost scope
 abbrev in_scope : ℕ → List ℕ → List ℕ → Option ℕ
 in_scope name run words = last_of name (scope_of run) (drop (scope_of run) (bindings_in (bound_of run) words))
 
-module _ (name : ℕ) (run words : List ℕ) (r : Found) (found : r ≡ found_of (in_scope name run words)) where
-  is_at : (i : ℕ) → r ≡ At i → in_scope name run words ≡ some i
-  is_at i at = found_some (in_scope name run words) i (sym at ∙ found)
+module _ (name : ℕ) (run words : List ℕ) (v : Value) (f : Fits run words) where
+  pub declare_again : (i : ℕ) (words' : List ℕ) → Some i ≡ found_of (in_scope name run words) → Put v (3 * i) words words'
+      → TriedWords true (λ σ. declared σ name v) run words run words'
+  unfolding store_of declared
+  declare_again i words' found put bytes =
+      made (λ σ. declared σ name v) (λ σ. rebound σ i v) (rw (found_some (in_scope name run words) i found))
+      (rebind_some v run words words' i f (found_below name (scope_of run) (bound_of run) words i found) put bytes)
 
-  is_nowhere : r ≡ Nothing → in_scope name run words ≡ none
-  is_nowhere nowhere = found_none (in_scope name run words) (sym nowhere ∙ found)
-
-  module _ (v : Value) (f : Fits run words) where
-    pub declare_again : (i : ℕ) (words' : List ℕ) → r ≡ At i → Put v (3 * i) words words' → TriedWords true (λ σ. declared σ name v) run words run words'
+  module _ (nowhere : None ≡ found_of (in_scope name run words)) where
+    pub declare_full : 256 ≤ bound_of run → TriedWords false (λ σ. declared σ name v) run words run words
     unfolding store_of declared
-    declare_again i words' at put bytes =
-        made (λ σ. declared σ name v) (λ σ. rebound σ i v) (rw (is_at i at)) (rebind_some v run words words' i f (found_below name (scope_of run) (bound_of run) words r i found at) put bytes)
+    declare_full full bytes =
+        refused (λ σ. declared σ name v) f
+        (rw (found_none (in_scope name run words) nowhere, length_part bindings_counted run words bytes, le-ltb (bound_of run) 256 full))
 
-    pub declare_full : r ≡ Nothing → 256 ≤ bound_of run → TriedWords false (λ σ. declared σ name v) run words run words
-    unfolding store_of declared
-    declare_full nowhere full bytes =
-        refused (λ σ. declared σ name v) f (rw (is_nowhere nowhere, length_part bindings_counted run words bytes, le-ltb (bound_of run) 256 full))
-
-    pub declare_new : (words' : List ℕ) → r ≡ Nothing → bound_of run < 256 → Put v (3 * bound_of run) words words'
+    pub declare_new : (words' : List ℕ) → bound_of run < 256 → Put v (3 * bound_of run) words words'
         → TriedWords true (λ σ. declared σ name v) run words (set run 1 (bound_of run + 1)) (set words' (3 * bound_of run + 2) name)
     unfolding store_of declared binding_in
-    declare_new words' nowhere room put bytes =
+    declare_new words' room put bytes =
         let n = bound_of run in
         let σ = store_of run words bytes in
         let ws = (slot_of v).payload ∷ (slot_of v).kind ∷ name ∷ [] in
         let stored : set words' (3 * n + 2) name ≡ sets words (3 * n) ws = ap₂ (λ (l : List ℕ) (k : ℕ). set l k name) put.stored (add-two (3 * n)) in
         subst (λ (w : List ℕ). Tried true (λ τ. declared τ name v) run words bytes (set run 1 (n + 1)) w bytes) (sym stored)
         (made (λ τ. declared τ name v) (λ τ. with_bindings (τ.bindings ++ (record { name = name; value = v } ∷ [])) τ)
-        (rw (is_nowhere nowhere, length_part bindings_counted run words bytes, lt-ltb n 256 room))
+        (rw (found_none (in_scope name run words) nowhere, length_part bindings_counted run words bytes, lt-ltb n 256 room))
         (became_as _ _ (ap (λ (u : Value). with_bindings (σ.bindings ++ (record { name = name; value = u } ∷ [])) σ) put.back)
         (one_more bindings_counted run words (3 * n) ws f (omega arith) refl room bytes)))
 

@@ -1,14 +1,13 @@
 -- Bindings and scopes: what their functions give and leave, by the definitions of the rules.
-use Rattle.std.specs.Prelude.{ℕ, ◌+◌, ◌≤◌, ◌≡◌, cond, List, ◌++◌, ltb, length, take, drop}
-use Rattle.std.proofs.Math.Option.{Option, some, none}
+use Rattle.std.specs.Prelude.{ℕ, Option, ◌+◌, ◌≤◌, ◌≡◌, cond, List, ◌++◌, ltb, length, take, drop}
+use Rattle.std.proofs.Math.Option.{Option as Changed, some, none}
 use Rattle.rules.specs.declared.Value.{Value}
 use Rattle.rules.specs.Store.{Store, most_bindings, with_bindings, with_scope, with_floor, opened, closed, dropped, sought, bound_at, arguments}
-use Rattle.stores.specs.declared.Found.{Found}
 use Rattle.stores.specs.Finding.{found_of}
 use Rattle.stores.specs.Stores.{store_of, bindings_in, pendings_in, cells_in}
 
 -- what is sought and read does not depend on text
-pub record Sought (r : Found) (run words : List ℕ) (name : ℕ) : Type 0 where
+pub record Sought (r : Option ℕ) (run words : List ℕ) (name : ℕ) : Type 0 where
   pub is : (bytes : List ℕ) → r ≡ found_of (sought (store_of run words bytes) name)
 
 pub record BoundAt (r : Value) (run words : List ℕ) (i : ℕ) : Type 0 where
@@ -22,7 +21,7 @@ abbrev pub broken_out : ℕ → ℕ → Store → Store
 broken_out scope from σ = with_scope scope (first_bindings from σ)
 
 -- "arguments first, then the count (24), then their bindings (10)": all of them or none
-abbrev pub arguments_bound : ℕ → ℕ → Store → Option Store
+abbrev pub arguments_bound : ℕ → ℕ → Store → Changed Store
 arguments_bound first from σ =
     cond (ltb most_bindings (length σ.bindings + length (drop from σ.pending))) none
     (some (with_floor (length σ.bindings) (with_bindings (σ.bindings ++ arguments first (drop from σ.pending)) (opened σ))))

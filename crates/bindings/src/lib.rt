@@ -9,27 +9,24 @@ ghost use Rattle.stores.specs.Stores.{Fits, BecameRun, BecameWords, TriedWords, 
 
 use rules::Value;
 use slots::{put_slot, value_of};
-use stores::Found;
 use stores::pending::{drop_pending, pending_since};
 use stores::run::{BOUND, FLOOR, SCOPE};
 
 // The last binding of a name, from number `from` up to `to`.
-fn last_of(words: &[u64], name: u64, from: usize, to: usize) -> Found
+fn last_of(words: &[u64], name: u64, from: usize, to: usize) -> Option<usize>
     requires { (to ≤ 256) × (8192 ≤ length words.now) }
     ensures { result ≡ found_of (last_of name from (drop from (bindings_in to words.now))) }
 {
-    let mut i = to;
-    while from < i {
-        i = i - 1;
+    for i in (from..to).rev() {
         if words[3 * i + 2] == name {
-            return Found::At(i);
+            return Some(i);
         }
     }
-    Found::Nothing
+    None
 }
 
 // A name, from the innermost scope outward to the called function's argument scope.
-pub fn look_up(words: &[u64], run: &[u64; 16], name: u16) -> Found
+pub fn look_up(words: &[u64], run: &[u64; 16], name: u16) -> Option<usize>
     requires { Fits run.now words.now }
     ensures { Sought result run.now words.now name }
 {
@@ -58,25 +55,25 @@ pub fn rebind(words: &mut [u64], run: &[u64; 16], i: usize, v: Value)
 }
 
 // The bindings that there are at most.
-const MOST_BINDINGS: usize = 256;
+const MOST_BINDINGS: u64 = 256;
 
 // A name bound in the innermost scope: a binding of that scope is replaced; false where a new one would be the 257th.
 pub fn declare(words: &mut [u64], run: &mut [u64; 16], name: u16, v: Value) -> bool
     requires { Fits run.old words.old }
     ensures { TriedWords result (λ σ. declared σ name v) run.old words.old run.new words.new }
 {
-    let bound = run[BOUND] as usize;
-    let found = last_of(words, name as u64, run[SCOPE] as usize, bound);
-    if let Found::At(at) = found {
+    let count = run[BOUND];
+    let bound = count as usize;
+    if let Some(at) = last_of(words, name as u64, run[SCOPE] as usize, bound) {
         put_slot(words, 3 * at, v);
         return true;
     }
-    if MOST_BINDINGS <= bound {
+    if MOST_BINDINGS <= count {
         return false;
     }
     put_slot(words, 3 * bound, v);
     words[3 * bound + 2] = name as u64;
-    run[BOUND] = bound as u64 + 1;
+    run[BOUND] = count + 1;
     true
 }
 
@@ -128,7 +125,7 @@ pub fn bind_arguments(words: &mut [u64], run: &mut [u64; 16], first: u16, from: 
 {
     let bound = run[BOUND];
     let count = pending_since(run, from);
-    if 256 < bound + count {
+    if MOST_BINDINGS < bound + count {
         return false;
     }
     copy_arguments(
@@ -149,8 +146,7 @@ fn copy_arguments(words: &mut [u64], bound: usize, first: u64, from: usize, coun
     requires { (bound + count ≤ 256) × (count ≤ 512 - from) × (first < 65536) × (8192 ≤ length words.old) }
     ensures { Copied bound first from count words.old words.new }
 {
-    let mut i = 0;
-    while i < count {
+    for i in 0..count {
         let at = 768 + 2 * (from + i);
         let payload = words[at];
         let kind = words[at + 1];
@@ -158,7 +154,6 @@ fn copy_arguments(words: &mut [u64], bound: usize, first: u64, from: usize, coun
         words[to] = payload;
         words[to + 1] = kind;
         words[to + 2] = first + i as u64;
-        i = i + 1;
     }
 }
 

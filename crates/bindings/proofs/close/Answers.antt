@@ -1,0 +1,10 @@
+-- What `break_out` leaves, at the scope's number.
+use mathlib.Core.Path.{refl}
+use Rattle.rules.specs.Store.{closed}
+use Rattle.stores.specs.Stores.{store_of}
+use Rattle.stores.proofs.Chains.{became_as}
+use Rattle.bindings.proofs.close.Goals as goal
+
+pub returns : goal.returns
+unfolding store_of
+returns c words bytes f = became_as _ (closed _) refl (c.break_out.ensures words bytes f)

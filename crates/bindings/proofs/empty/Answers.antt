@@ -1,0 +1,10 @@
+-- What `keep` leaves, at the scope's number.
+use mathlib.Core.Path.{refl}
+use Rattle.rules.specs.Store.{emptied}
+use Rattle.stores.specs.Stores.{store_of}
+use Rattle.stores.proofs.Chains.{became_as}
+use Rattle.bindings.proofs.empty.Goals as goal
+
+pub returns : goal.returns
+unfolding store_of
+returns c words bytes f = became_as _ emptied refl (c.keep.ensures words bytes f)

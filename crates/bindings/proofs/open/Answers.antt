@@ -1,0 +1,6 @@
+-- `became_opened`.
+use Rattle.bindings.proofs.ScopeLaws.{became_opened}
+use Rattle.bindings.proofs.open.Goals as goal
+
+pub returns : goal.returns
+returns c = became_opened _
