@@ -16,7 +16,8 @@ use Rattle.rules.specs.declared.Value.{Value}
 use Rattle.rules.specs.declared.Value.TheVariants.{Unit as VUnit, Bool as VBool}
 use Rattle.rules.specs.declared.Refusal.TheVariants.{Depth, NotConst}
 use Rattle.rules.specs.Store.{Store, opened, emptied, closed, sought, declared, as_bool}
-use Rattle.rules.specs.declared.Got.{Got}
+use Rattle.std.specs.Prelude.{Result}
+use Rattle.rules.specs.declared.Refused.{Refused}
 use Rattle.rules.specs.Targets.{Wrote, target_read, target_set, target_assigned}
 use Rattle.rules.specs.Building.{Made, literal_value, binary_of}
 use Rattle.rules.specs.Machine.{Kind, scope, binary, decl, set, assign, template, name, read, value, branches, loop, break, vec, tuple, object, call, other, kinds, kind_of, takes_more, most_depth}
@@ -131,7 +132,7 @@ module _ {image : List ℕ} {h : Header} {l : ℕ} {K : List Frame} {σ : Store}
     unfolding next cost worked
     name_sought k e = free refl (rw (k, e))
 
-    pub target_got : {x : Got} → kind_of (node_at image h n).kind ≡ read → target_read image h σ (node_at image h n).a ≡ x
+    pub target_got : {x : Result Value Refused} → kind_of (node_at image h n).kind ≡ read → target_read image h σ (node_at image h n).a ≡ x
         → Go image h l (going (work n d) K σ) l (got image h K σ x)
     unfolding next cost worked
     target_got k e = free refl (rw (k, e))

@@ -19,8 +19,8 @@ use Rattle.rules.specs.declared.Answer.TheVariants.{Spent}
 use Rattle.rules.specs.declared.Refusal.{Refusal}
 use Rattle.rules.specs.declared.Refusal.TheVariants.{Depth, Bindings, Pending, BreakWithValue, ArgumentCount}
 use Rattle.rules.specs.Store.{Store, most_bindings, most_pending, opened, emptied, closed, dropped, pushed, taken_cells, as_bool, declared, sought}
-use Rattle.rules.specs.declared.Got.{Got}
-use Rattle.rules.specs.declared.Got.TheVariants.{Is, Not}
+use Rattle.std.specs.Prelude.{Result, Ok, Err}
+use Rattle.rules.specs.declared.Refused.{Refused}
 use Rattle.rules.specs.Targets.{Wrote, done, refused as wrote_not, target_read, target_set, target_assigned}
 use Rattle.rules.specs.Building.{Made, gives, refuses, built_text, binary_of, boxed, item_cells, entries, entry_cells, printed, template_text}
 use Rattle.rules.specs.Machine.{Kind, scope, binary, decl, set, assign, template, name, read, value, branches, loop, break, vec, tuple, object, call, other, kind_of, takes_more, most_depth, Ctl, enter, enter_body, again, work, instructions, items, arms, turn, test, ret, brk, Frame, left_of, right_of, decl_of, set_of, assign_of, let_of, break_of, instruction_of, end_of, item_of, arm_of, condition_of, body_of, call_of, Cfg, going, stop, ends, onward, whole_chain, made, got, wrote, bound, named, worked, instructed, armed, arm_told, turned, condition_told, accepted, judged, item_node, called, completed, itemised, returned, broken, next, cost}
@@ -108,9 +108,9 @@ module _ (image : List ℕ) (h : Header) where
   mades m K (gives v σ) l = rets m v K σ l
   mades m K (refuses why place) l = stops m why place
 
-  gots : (m : ℕ) (K : List Frame) (σ : Store) (x : Got) → 2 + 5000 * length K < m → Falls m (got image h K σ x)
-  gots m K σ (Is v) l = rets m v K σ l
-  gots m K σ (Not why place) l = stops m why place
+  gots : (m : ℕ) (K : List Frame) (σ : Store) (x : Result Value Refused) → 2 + 5000 * length K < m → Falls m (got image h K σ x)
+  gots m K σ (Ok v) l = rets m v K σ l
+  gots m K σ (Err r) l = stops m r.why r.place
 
   wrotes : (m : ℕ) (K : List Frame) (x : Wrote) → 2 + 5000 * length K < m → Falls m (wrote image h K x)
   wrotes m K (done σ) l = rets m _ K σ l

@@ -1,12 +1,14 @@
 -- What nodes build of their operands: binary operations, vec, tuple, object and template (01 'Evaluation' and 'Our additions').
-use Rattle.std.specs.Prelude.{ℕ, ◌+◌, ◌%◌, ◌^◌, Bool, true, false, cond, List, [], ◌∷◌, ◌++◌, map, leb, eqb, ℤ, Float, length}
+use Rattle.std.specs.Prelude.{Result, Ok, Err, ℕ, ◌+◌, ◌%◌, ◌^◌, Bool, true, false, cond, List, [], ◌∷◌, ◌++◌, map, leb, eqb, ℤ, Float, length}
 use Rattle.std.proofs.Math.Option.{Option, some, none}
 use Rattle.packed.specs.declared.layout.Header.{Header}
 use Rattle.packed.specs.Layout.{node_at, literal_at}
 use Rattle.numbers.specs.declared.ArithRefusal.{ArithRefusal}
 use Rattle.numbers.specs.declared.ArithRefusal.TheVariants.{Overflow, Division, ShiftOperand}
-use Rattle.numbers.specs.declared.Binary.{Binary}
-use Rattle.numbers.specs.declared.Binary.TheVariants.{Signed as BSigned, Float as BFloat, Bool as BBool, Refused as BRefused, NotConst as BNotConst, Unlisted as BUnlisted}
+use Rattle.numbers.specs.declared.Number.{Number}
+use Rattle.numbers.specs.declared.Number.TheVariants.{Signed as NSigned, Float as NFloat, Bool as NBool}
+use Rattle.numbers.specs.declared.OpError.{OpError}
+use Rattle.numbers.specs.declared.OpError.TheVariants.{Arithmetic as OArithmetic, NotConst as ONotConst, Unlisted}
 use Rattle.numbers.specs.Ints.{binary_int_of}
 use Rattle.numbers.specs.Floats.{binary_float_of, float_of}
 use Rattle.numbers.specs.Words.{int_of}
@@ -83,13 +85,13 @@ module _ (image : List ℕ) (h : Header) where
   arith_place n Division = n
   arith_place n ShiftOperand = (node_at image h n).b
 
-  abbrev pub of_numbers : ℕ → Store → Binary → Made
-  of_numbers n σ (BSigned z) = gives (Signed z) σ
-  of_numbers n σ (BFloat x) = gives (VFloat x) σ
-  of_numbers n σ (BBool b) = gives (VBool b) σ
-  of_numbers n σ (BRefused why) = refuses (Arithmetic why) (arith_place n why)
-  of_numbers n σ BNotConst = refuses NotConst n
-  of_numbers n σ BUnlisted = refuses NotConst n
+  abbrev pub of_numbers : ℕ → Store → Result Number OpError → Made
+  of_numbers n σ (Ok (NSigned z)) = gives (Signed z) σ
+  of_numbers n σ (Ok (NFloat x)) = gives (VFloat x) σ
+  of_numbers n σ (Ok (NBool b)) = gives (VBool b) σ
+  of_numbers n σ (Err (OArithmetic why)) = refuses (Arithmetic why) (arith_place n why)
+  of_numbers n σ (Err ONotConst) = refuses NotConst n
+  of_numbers n σ (Err Unlisted) = refuses NotConst n
 
   -- "both text, + joins. Anything else is 12"
   abbrev pub of_texts : ℕ → Store → Option (ℕ × ℕ) → Option (ℕ × ℕ) → Made

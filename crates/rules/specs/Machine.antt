@@ -1,7 +1,7 @@
 -- The rules of 01 as a machine: a total function on configurations, with no budget in it.
 -- A configuration is what is to be done (`Ctl`), the frames that wait for it (`Frame`) and the store; or a stop with a refusal and its place.
 -- `next` is one transition, `cost` 1 where it is a take. A stop, and a value with no frame left, stay as they are.
-use Rattle.std.specs.Prelude.{ℕ, zero, suc, ◌+◌, Bool, true, false, not, ◌||◌, cond, List, [], ◌∷◌, ◌++◌, ltb, eqb, length, get_or, take, drop}
+use Rattle.std.specs.Prelude.{Result, Ok, Err, ℕ, zero, suc, ◌+◌, Bool, true, false, not, ◌||◌, cond, List, [], ◌∷◌, ◌++◌, ltb, eqb, length, get_or, take, drop}
 use Rattle.std.proofs.Math.Option.{Option, some, none}
 use Rattle.packed.specs.declared.layout.Header.{Header}
 use Rattle.packed.specs.Layout.{node_at, function_at}
@@ -10,8 +10,7 @@ use Rattle.rules.specs.declared.Value.TheVariants.{Unit as VUnit, Bool as VBool,
 use Rattle.rules.specs.declared.Refusal.{Refusal}
 use Rattle.rules.specs.declared.Refusal.TheVariants.{Depth, Bindings, Pending, NotConst, BreakOutside, BreakWithValue, NotBool, MissingName, ArgumentCount}
 use Rattle.rules.specs.Store.{Store, most_bindings, most_pending, with_scope, with_floor, with_bindings, opened, emptied, closed, sought, bound_at, declared, arguments, pushed, dropped, taken_cells, as_bool, as_float}
-use Rattle.rules.specs.declared.Got.{Got}
-use Rattle.rules.specs.declared.Got.TheVariants.{Is, Not}
+use Rattle.rules.specs.declared.Refused.{Refused}
 use Rattle.rules.specs.Targets.{Wrote, done, refused, target_read, target_set, target_assigned}
 use Rattle.rules.specs.Building.{Made, gives, refuses, literal_value, built_text, binary_of, boxed, item_cells, entries, entry_cells, printed, unprinted, template_text}
 
@@ -128,9 +127,9 @@ module _ (image : List ℕ) (h : Header) where
   made K (gives v σ) = going (ret v) K σ
   made K (refuses why place) = stop why place
 
-  abbrev pub got : List Frame → Store → Got → Cfg
-  got K σ (Is v) = going (ret v) K σ
-  got K σ (Not why place) = stop why place
+  abbrev pub got : List Frame → Store → Result Value Refused → Cfg
+  got K σ (Ok v) = going (ret v) K σ
+  got K σ (Err r) = stop r.why r.place
 
   -- "Set, assign and decl give unit"
   abbrev pub wrote : List Frame → Wrote → Cfg

@@ -24,7 +24,7 @@ pub enum Value {
 }
 
 // Why evaluation or output is refused. The budget is not among them: the rules know none.
-#[derive(Clone, Copy)]
+#[derive(Clone, Copy, Debug, PartialEq, Eq)]
 pub enum Refusal {
     // 7 to 11: depth, cells, text bytes, bindings, pending items
     Depth,
@@ -52,20 +52,19 @@ pub enum Refusal {
     Room,
 }
 
-// What a target being read gives, and what a node makes of its operands: a value, or a refusal and its place.
-#[derive(Clone, Copy)]
-pub enum Got {
-    Is(Value),
-    Not(Refusal, u16),
+// Why a target that is read, or a node of its operands, gives no value, and the node at which that is told.
+#[derive(Clone, Copy, Debug, PartialEq, Eq)]
+pub struct Refused {
+    pub why: Refusal,
+    pub place: u16,
 }
 
-// Where a target being written stands: a binding, a cell, a field that its object (by its head) does not have yet, or nowhere.
-#[derive(Clone, Copy)]
+// Where a target being written stands: a binding, a cell, or a field that its object (by its head) does not have yet.
+#[derive(Clone, Copy, Debug, PartialEq, Eq)]
 pub enum Place {
     Binding(usize),
     Cell(usize),
     Absent(u32),
-    Nowhere(Refusal, u16),
 }
 
 impl Refusal {
@@ -82,11 +81,7 @@ impl Refusal {
             Refusal::BreakOutside => 13,
             Refusal::BreakWithValue => 14,
             Refusal::NotBool => 15,
-            Refusal::Arithmetic(why) => match why {
-                ArithRefusal::Overflow => 16,
-                ArithRefusal::Division => 17,
-                ArithRefusal::ShiftOperand => 18,
-            },
+            Refusal::Arithmetic(why) => why.number(),
             Refusal::Operands => 19,
             Refusal::MissingName => 20,
             Refusal::MissingField => 21,
@@ -101,7 +96,7 @@ impl Refusal {
 }
 
 // The answer of one call.
-#[derive(Clone, Copy)]
+#[derive(Clone, Copy, Debug, PartialEq, Eq)]
 pub enum Answer {
     // a value was written: its length in bytes, and the steps taken
     Value(usize, u64),
@@ -133,11 +128,9 @@ impl Answer {
         ensures { result ≡ place_of self }
     {
         match self {
-            Answer::Refused(_, place, _) => place,
-            Answer::Spent(place, _) => place,
+            Answer::Refused(_, place, _) | Answer::Spent(place, _) => place,
             Answer::NotLoaded(_, place) => place,
-            Answer::Value(_, _) => 0,
-            Answer::StoreTooShort => 0,
+            Answer::Value(_, _) | Answer::StoreTooShort => 0,
         }
     }
 
@@ -145,11 +138,9 @@ impl Answer {
         ensures { result ≡ steps_of self }
     {
         match self {
-            Answer::Value(_, steps) => steps,
-            Answer::Refused(_, _, steps) => steps,
-            Answer::Spent(_, steps) => steps,
-            Answer::NotLoaded(_, _) => 0,
-            Answer::StoreTooShort => 0,
+            Answer::Value(_, steps) | Answer::Refused(_, _, steps) | Answer::Spent(_, steps) =>
+                steps,
+            Answer::NotLoaded(_, _) | Answer::StoreTooShort => 0,
         }
     }
 }
