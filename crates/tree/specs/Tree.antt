@@ -1,12 +1,11 @@
 -- Refusal 4, the tree, at "the lowest node at fault": "the node that names wrongly, carries a stray next, heads too long a target
 -- or is itself named other than once; for header and function records, the node named".
-use Rattle.std.specs.Prelude.{ℕ, zero, suc, ◌+◌, ◌≤◌, ◌<◌, ◌≡◌, Bool, true, not, ◌&&◌, ◌||◌, cond, List, [], ◌∷◌, ◌++◌, leb, ltb, eqb, get_or, length}
+use Rattle.std.specs.Prelude.{ℕ, zero, suc, ◌+◌, ◌≤◌, ◌<◌, ◌≡◌, Bool, true, not, ◌&&◌, ◌||◌, cond, List, [], ◌∷◌, ◌++◌, leb, ltb, eqb, get_or, length, Option}
 use Rattle.packed.specs.declared.layout.Header.{Header}
 use Rattle.packed.specs.declared.layout.Node.{Node}
 use Rattle.kinds.specs.declared.Class.TheVariants.{Expression, Scope}
 use Rattle.kinds.specs.declared.Role.{Role}
 use Rattle.kinds.specs.declared.Role.TheVariants.{Unlisted, Number, Literal, Text, Function, Node as NodeRole}
-use Rattle.records.specs.declared.first.Found.{Found}
 use Rattle.records.specs.First.{first_from}
 use Rattle.packed.specs.Layout.{function_at, node_at}
 use Rattle.kinds.specs.Kinds.{is_within, is_of, row_of}
@@ -115,7 +114,7 @@ node_right image h n d =
 abbrev pub at_fault : List ℕ → Header → ℕ → Bool
 at_fault image h n = not (node_right image h n (node_at image h n))
 
-unfoldable pub lowest_fault : List ℕ → Header → Found
+unfoldable pub lowest_fault : List ℕ → Header → Option ℕ
 lowest_fault image h = first_from (at_fault image h) 1 h.nodes
 
 -- ---- what the passes over the image leave in their arrays

@@ -9,14 +9,6 @@ ghost use Rattle.records.specs.Records.{node_good};
 
 use kinds::{Class, Role, is_expression, is_of, is_part, row_of};
 use packed::layout::{Header, Node, function_at, node_at};
-use records::first::Found;
-
-// The same byte, with its bound: what is read behind a reference to an array comes with none.
-fn byte(x: u8) -> u8
-    ensures { (result ≡ x) × (result < 256) }
-{
-    x
-}
 
 // Where a count stops, so that none wraps to 1.
 const MOST_COUNTED: u8 = 255;
@@ -26,10 +18,9 @@ fn bump(counts: &mut [u8; 4096], node: u16)
     requires { (node < 4096) × (length counts.old ≡ 4096) }
     ensures { Added counts.old counts.new (node ∷ []) }
 {
-    let n = node as usize;
-    let old = byte(counts[n]);
-    if old < MOST_COUNTED {
-        counts[n] = old + 1;
+    let n = usize::from(node);
+    if counts[n] < MOST_COUNTED {
+        counts[n] += 1;
     }
 }
 
@@ -44,10 +35,9 @@ fn named(role: Role, x: u16) -> u16
 fn heading(kind: u8, role: Role) -> u8
     ensures { result ≡ heading_of kind role }
 {
-    if let Role::Node(_, heads, _) = role {
-        if heads { kind } else { 0 }
-    } else {
-        0
+    match role {
+        Role::Node(_, true, _) => kind,
+        _ => 0,
     }
 }
 
@@ -56,10 +46,8 @@ fn name_node(names: &mut [u8; 4096], d: Node)
     ensures { Added names.old names.new (names_of d) }
 {
     let line = row_of(d.kind);
-    let a = line.a;
-    let b = line.b;
-    bump(names, named(a, d.a));
-    bump(names, named(b, d.b));
+    bump(names, named(line.a, d.a));
+    bump(names, named(line.b, d.b));
     bump(names, d.next);
 }
 
@@ -68,11 +56,8 @@ fn mark(chains: &mut [u8; 4096], n: u16, to: u16, kind: u8)
     requires { (to < 4096) × (length chains.old ≡ 4096) }
     ensures { Holds chains.new (λ m. marked n to kind m (get_or chains.old m 0)) }
 {
-    if kind == 0 {
-        return;
-    }
-    if n < to {
-        chains[to as usize] = kind;
+    if kind != 0 && n < to {
+        chains[usize::from(to)] = kind;
     }
 }
 
@@ -80,11 +65,9 @@ fn mark_node(chains: &mut [u8; 4096], n: u16, d: Node)
     requires { (n < 4096) × (d.a < 4096) × (d.next < 4096) × (length chains.old ≡ 4096) }
     ensures { Holds chains.new (says n d (λ m. get_or chains.old m 0)) }
 {
-    let line = row_of(d.kind);
-    let a = line.a;
-    let own = chains[n as usize];
+    let own = chains[usize::from(n)];
     mark(chains, n, d.next, own);
-    mark(chains, n, d.a, heading(d.kind, a));
+    mark(chains, n, d.a, heading(d.kind, row_of(d.kind).a));
 }
 
 fn count_bodies(image: &[u8], h: Header, names: &mut [u8; 4096], bodies: &mut [u8; 4096])
@@ -92,13 +75,10 @@ fn count_bodies(image: &[u8], h: Header, names: &mut [u8; 4096], bodies: &mut [u
     ensures of_names { Added names.old names.new (bodies_of image.now h.functions) }
     ensures of_bodies { Added bodies.old bodies.new (bodies_of image.now h.functions) }
 {
-    let functions = h.functions as usize;
-    let mut f = 0;
-    while f < functions {
+    for f in 0..usize::from(h.functions) {
         let d = function_at(image, h, f);
         bump(names, d.body);
         bump(bodies, d.body);
-        f = f + 1;
     }
 }
 
@@ -107,17 +87,15 @@ fn survey(image: &[u8], h: Header, names: &mut [u8; 4096], chains: &mut [u8; 409
     ensures of_names { Added names.old names.new (node_names image.now h h.nodes) }
     ensures of_chains { Holds chains.new (chain_by image.now h h.nodes) }
 {
-    let nodes = h.nodes;
-    let mut n: u16 = 0;
-    while n < nodes {
-        n = n + 1;
-        let d = node_at(image, h, n as usize);
+    for n in 1..=h.nodes {
+        let d = node_at(image, h, usize::from(n));
         name_node(names, d);
         mark_node(chains, n, d);
     }
 }
 
 // Whether what node n names in a field of that role goes to a greater number and to a kind that fits.
+#[tactic(auto, unfolding(crate::specs::Tree::goes))]
 fn goes(image: &[u8], h: Header, n: u16, role: Role, x: u16) -> bool
     requires { (named_of role x ≤ h.nodes) × (size_of h ≤ length image.now) }
     ensures { result ≡ goes_of image.now h n role x }
@@ -125,14 +103,7 @@ fn goes(image: &[u8], h: Header, n: u16, role: Role, x: u16) -> bool
     match role {
         Role::Unlisted => x == 0,
         Role::Node(_, _, class) => {
-            if x == 0 {
-                return true;
-            }
-            if x <= n {
-                return false;
-            }
-            let to = node_at(image, h, x as usize);
-            is_of(class, to.kind)
+            x == 0 || (n < x && is_of(class, node_at(image, h, usize::from(x)).kind))
         }
         _ => true,
     }
@@ -144,77 +115,58 @@ fn parts(image: &[u8], h: Header, n: u16) -> u8
     ensures { result ≡ parts_of image.now h 65 n }
 {
     let mut at = n;
-    let mut count: u8 = 0;
-    while count < 65 {
-        let d = node_at(image, h, at as usize);
+    for count in 0..65u8 {
+        let d = node_at(image, h, usize::from(at));
         if !is_part(d.kind) {
             return count;
         }
-        count = count + 1;
         if d.a <= at {
-            return count;
+            return count + 1;
         }
         at = d.a;
     }
-    count
+    65
 }
 
 // Whether node n names well: what its a, its b and its next go to.
+#[tactic(auto, unfolding(crate::specs::Tree::names_well))]
 fn names_well(image: &[u8], h: Header, n: u16, d: Node, chain: u8) -> bool
     requires { (size_of h ≤ length image.now) × (node_good image.now h d ≡ true) }
     ensures { result ≡ names_well image.now h n chain d }
 {
     let line = row_of(d.kind);
-    let a = line.a;
-    if !goes(image, h, n, a, d.a) {
-        return false;
-    }
-    let b = line.b;
-    if !goes(image, h, n, b, d.b) {
-        return false;
-    }
-    let whose = row_of(chain);
-    let head = whose.a;
-    goes(image, h, n, head, d.next)
+    goes(image, h, n, line.a, d.a)
+        && goes(image, h, n, line.b, d.b)
+        && goes(image, h, n, row_of(chain).a, d.next)
 }
 
 fn is_root_well(h: Header, n: u16, kind: u8) -> bool
     ensures { result ≡ not (eqb n h.root) || is_of Class.Expression kind }
 {
-    if n != h.root {
-        return true;
-    }
-    is_expression(kind)
+    n != h.root || is_expression(kind)
 }
 
 fn is_body_well(kind: u8, as_body: u8) -> bool
     ensures { result ≡ eqb as_body 0 || is_of Class.Scope kind }
 {
-    if as_body == 0 {
-        return true;
-    }
-    kind == 1
+    as_body == 0 || kind == 1
 }
 
 // How often a node is named.
 const NAMINGS: u8 = 1;
 
 // Whether node n is named as it should be: once, the root an expression and a body a scope.
+#[tactic(auto, unfolding(crate::specs::Tree::is_named_well))]
 fn is_named_well(h: Header, n: u16, kind: u8, times: u8, as_body: u8) -> bool
     ensures { result ≡ is_named_well h n kind times as_body }
 {
-    if times != NAMINGS {
-        return false;
-    }
-    if !is_root_well(h, n, kind) {
-        return false;
-    }
-    is_body_well(kind, as_body)
+    times == NAMINGS && is_root_well(h, n, kind) && is_body_well(kind, as_body)
 }
 
 // The parts that a target has at most.
 const MOST_PARTS: u8 = 64;
 
+#[tactic(auto, unfolding(crate::specs::Tree::node_right))]
 fn node_right(
     image: &[u8],
     h: Header,
@@ -226,15 +178,11 @@ fn node_right(
     requires { (1 ≤ n) × (n ≤ h.nodes) × (size_of h ≤ length image.now) × GoodNodes image.now h × Surveyed image.now h names.now bodies.now chains.now }
     ensures { result ≡ node_right image.now h n (node_at image.now h n) }
 {
-    let at = n as usize;
+    let at = usize::from(n);
     let d = node_at(image, h, at);
-    if !names_well(image, h, n, d, chains[at]) {
-        return false;
-    }
-    if MOST_PARTS < parts(image, h, n) {
-        return false;
-    }
-    is_named_well(h, n, d.kind, names[at], bodies[at])
+    names_well(image, h, n, d, chains[at])
+        && parts(image, h, n) <= MOST_PARTS
+        && is_named_well(h, n, d.kind, names[at], bodies[at])
 }
 
 fn first_wrong(
@@ -243,23 +191,20 @@ fn first_wrong(
     names: &[u8; 4096],
     bodies: &[u8; 4096],
     chains: &[u8; 4096],
-) -> Found
+) -> Option<usize>
     requires { (size_of h ≤ length image.now) × GoodNodes image.now h × Surveyed image.now h names.now bodies.now chains.now }
     ensures { result ≡ lowest_fault image.now h }
 {
-    let nodes = h.nodes;
-    let mut n: u16 = 1;
-    while n <= nodes {
+    for n in 1..=h.nodes {
         if !node_right(image, h, n, names, bodies, chains) {
-            return Found::At(n as usize);
+            return Some(usize::from(n));
         }
-        n = n + 1;
     }
-    Found::Nowhere
+    None
 }
 
 // The lowest node at fault, in an image whose records are good.
-pub fn lowest_fault(image: &[u8], h: Header) -> Found
+pub fn lowest_fault(image: &[u8], h: Header) -> Option<usize>
     requires { (h.root < 4096) × (size_of h ≤ length image.now) × GoodNodes image.now h }
     ensures { result ≡ lowest_fault image.now h }
 {
