@@ -16,7 +16,7 @@ use Rattle.kinds.specs.declared.Role.{Role}
 use Rattle.kinds.specs.declared.Role.TheVariants.{Unlisted, Number, Literal, Text, Function, Node as NodeRole}
 use Rattle.packed.specs.Layout.{node_at}
 use Rattle.kinds.specs.Kinds.{is_of, row_of}
-use Rattle.image.specs.declared.Loaded.TheVariants.{Image}
+use Rattle.std.proofs.Common.{Ok}
 use Rattle.tree.specs.Tree.{named, times, names_of, bodies, node_names, namings, heading, marked, chain_by}
 use Rattle.image.specs.Load.{load_of}
 use Rattle.tree.proofs.Counting.{times_append}
@@ -124,7 +124,7 @@ module _ (image : List ℕ) (h : Header) (m : ℕ) where
 
 -- ---- the image
 
-module _ (image : List ℕ) (h : Header) (loaded : load_of image ≡ Image h) where
+module _ (image : List ℕ) (h : Header) (loaded : load_of image ≡ Ok h) where
   -- the nodes below m, and any more, say that m stands in a chain of that kind
   abbrev Stands : ℕ → ℕ → Type 0
   Stands kind m = (k : ℕ) → m ≤ suc k → k ≤ h.nodes → chain_by image h k m ≡ kind

@@ -9,10 +9,9 @@ use lib.Dec.{ltb, leb, eqb}
 use lib.ListN.{length}
 use Rattle.fields.proofs.Tests.{and_both}
 use Rattle.packed.specs.declared.layout.Header.{Header}
-use Rattle.records.specs.declared.first.Found.{Found}
-use Rattle.records.specs.declared.first.Found.TheVariants.{At, Nowhere}
-use Rattle.image.specs.declared.Loaded.{Loaded}
-use Rattle.image.specs.declared.Loaded.TheVariants.{BadLength, BadHeader}
+use Rattle.std.proofs.Common.{Option, Some, None, Result, Err}
+use Rattle.image.specs.declared.LoadError.{LoadError}
+use Rattle.image.specs.declared.LoadError.TheVariants.{BadLength, BadHeader}
 use Rattle.records.specs.First.{first_from, Never}
 use Rattle.packed.specs.Layout.{header_of, size_of}
 use Rattle.records.specs.Records.{is_node, record_bad, record_offset, records_in, placed, bad_record}
@@ -40,14 +39,14 @@ not_root nodes root n = go (is_node nodes root) refl
 module _ (image : List ℕ) (h : Header) (right : HeaderRight image h) where
   -- ---- once the header is right, the records and then the tree decide
 
-  by_tree_lem : (x : Found) → lowest_fault image h ≡ x → Never (record_bad image h) 0 (records_in h) → Answers image (by_tree h x)
+  by_tree_lem : (x : Option ℕ) → lowest_fault image h ≡ x → Never (record_bad image h) 0 (records_in h) → Answers image (by_tree h x)
   unfolding lowest_fault
-  by_tree_lem (At n) e good = bad_tree h n right good (found (at_fault image h) 1 h.nodes n e)
-  by_tree_lem Nowhere e good = loads h right good (nowhere (at_fault image h) 1 h.nodes e)
+  by_tree_lem (Some n) e good = bad_tree h n right good (found (at_fault image h) 1 h.nodes n e)
+  by_tree_lem None e good = loads h right good (nowhere (at_fault image h) 1 h.nodes e)
 
-  by_records_lem : (x : Found) → first_from (record_bad image h) 0 (records_in h) ≡ x → Answers image (by_records image h (placed (record_offset h) x))
-  by_records_lem (At r) e = bad_record_there h r right (found (record_bad image h) 0 (records_in h) r e)
-  by_records_lem Nowhere e = by_tree_lem (lowest_fault image h) refl (nowhere (record_bad image h) 0 (records_in h) e)
+  by_records_lem : (x : Option ℕ) → first_from (record_bad image h) 0 (records_in h) ≡ x → Answers image (by_records image h (placed (record_offset h) x))
+  by_records_lem (Some r) e = bad_record_there h r right (found (record_bad image h) 0 (records_in h) r e)
+  by_records_lem None e = by_tree_lem (lowest_fault image h) refl (nowhere (record_bad image h) 0 (records_in h) e)
 
   judged_right : judged image h ≡ by_records image h (bad_record image h)
   unfolding judged
@@ -64,7 +63,7 @@ module _ (image : List ℕ) where
   header = header_of image
 
   by_root : (b : Bool) → is_node header.nodes header.root ≡ b → 8 ≤ length image → header.edition ≡ 1 → length image ≡ size_of header
-      → Answers image (cond (not b) BadHeader (by_records image header (bad_record image header)))
+      → Answers image (cond (not b) (Err BadHeader) (by_records image header (bad_record image header)))
   unfolding bad_record
   by_root true e w d l =
       by_records_lem image header (record { is = refl; whole = w; edition = d; exact = l; root_node = root_so header.nodes header.root e })
@@ -75,16 +74,16 @@ module _ (image : List ℕ) where
       true_false q = let z : ◌≡◌ {A = ℕ} 0 1 = cc in omega arith
 
   by_size : (b : Bool) → eqb (length image) (size_of header) ≡ b → 8 ≤ length image → header.edition ≡ 1
-      → Answers image (cond (not b) BadLength (cond (not (is_node header.nodes header.root)) BadHeader (by_records image header (bad_record image header))))
+      → Answers image (cond (not b) (Err BadLength) (cond (not (is_node header.nodes header.root)) (Err BadHeader) (by_records image header (bad_record image header))))
   by_size true e w d = by_root (is_node header.nodes header.root) refl w d (eqb-true (length image) (size_of header) e)
   by_size false e w d = other_length w d (eqb-false (length image) (size_of header) e)
 
   by_edition : (b : Bool) → eqb header.edition 1 ≡ b → 8 ≤ length image
-      → Answers image (cond (not b) BadHeader (cond (not (eqb (length image) (size_of header))) BadLength (cond (not (is_node header.nodes header.root)) BadHeader (by_records image header (bad_record image header)))))
+      → Answers image (cond (not b) (Err BadHeader) (cond (not (eqb (length image) (size_of header))) (Err BadLength) (cond (not (is_node header.nodes header.root)) (Err BadHeader) (by_records image header (bad_record image header)))))
   by_edition true e w = by_size (eqb (length image) (size_of header)) refl w (eqb-true header.edition 1 e)
   by_edition false e w = other_edition w (eqb-false header.edition 1 e)
 
-  by_whole : (b : Bool) → ltb (length image) 8 ≡ b → Answers image (cond b BadLength (judged image header))
+  by_whole : (b : Bool) → ltb (length image) 8 ≡ b → Answers image (cond b (Err BadLength) (judged image header))
   unfolding judged
   by_whole true e = short (ltb-true (length image) 8 e)
   by_whole false e = by_edition (eqb header.edition 1) refl (ltb-false (length image) 8 e)
@@ -95,7 +94,7 @@ module _ (image : List ℕ) where
 
 -- ---- and the facts give no other
 
-pub only : (image : List ℕ) (x : Loaded) → Answers image x → load_of image ≡ x
+pub only : (image : List ℕ) (x : Result Header LoadError) → Answers image x → load_of image ≡ x
 unfolding load_of judged bad_record lowest_fault
 only image x (short l) = rw (lt-ltb (length image) 8 l)
 only image x (other_edition w d) = rw (le-ltb (length image) 8 w, ne_eqb _ _ d)

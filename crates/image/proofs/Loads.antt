@@ -19,9 +19,8 @@ use Rattle.kinds.specs.declared.Class.TheVariants.{Expression, Scope}
 use Rattle.kinds.specs.declared.KindRow.{KindRow}
 use Rattle.kinds.specs.declared.Role.{Role}
 use Rattle.kinds.specs.declared.Role.TheVariants.{Unlisted, Number, Literal, Text, Function, Node as NodeRole}
-use Rattle.records.specs.declared.first.Found.TheVariants.{Nowhere}
-use Rattle.image.specs.declared.Loaded.{Loaded}
-use Rattle.image.specs.declared.Loaded.TheVariants.{Image}
+use Rattle.std.proofs.Common.{None, Result, Ok}
+use Rattle.image.specs.declared.LoadError.{LoadError}
 use Rattle.records.specs.First.{Never}
 use Rattle.packed.specs.Layout.{node_at, literal_at, part_at, function_at}
 use Rattle.kinds.specs.Kinds.{is_of, row_of, table, none}
@@ -102,7 +101,7 @@ known_kind kind op l = go (ℕ_discrete kind 0) (dec_lt 23 kind)
 -- ---- the image
 
 -- what `Answers` says of an image that loads
-facts : (image : List ℕ) (h : Header) (x : Loaded) → Answers image x → x ≡ Image h
+facts : (image : List ℕ) (h : Header) (x : Result Header LoadError) → Answers image x → x ≡ Ok h
     → HeaderRight image h × Never (record_bad image h) 0 (records_in h) × Never (at_fault image h) 1 h.nodes
 facts image h x (short l) e = let z : ◌≡◌ {A = ℕ} 0 1 = cc in absurd (omega arith)
 facts image h x (other_edition w d) e = let z : ◌≡◌ {A = ℕ} 0 1 = cc in absurd (omega arith)
@@ -114,14 +113,14 @@ facts image h x (loads g right good fine) e =
     let same : g ≡ h = cc in
     subst (λ (k : Header). HeaderRight image k × Never (record_bad image k) 0 (records_in k) × Never (at_fault image k) 1 k.nodes) same (right, good, fine)
 
-module _ (image : List ℕ) (h : Header) (loaded : load_of image ≡ Image h) where
+module _ (image : List ℕ) (h : Header) (loaded : load_of image ≡ Ok h) where
   all : HeaderRight image h × Never (record_bad image h) 0 (records_in h) × Never (at_fault image h) 1 h.nodes
   all = facts image h (load_of image) (answers image) loaded
 
   pub header_right : HeaderRight image h
   header_right = all.0
 
-  no_bad_record : bad_record image h ≡ Nowhere
+  no_bad_record : bad_record image h ≡ None
   unfolding bad_record
   no_bad_record = rw (is_nowhere (record_bad image h) 0 (records_in h) all.1)
 

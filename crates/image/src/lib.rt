@@ -3,18 +3,15 @@
 
 ghost use Rattle.std.specs.Prelude.{◌≡◌};
 ghost use Rattle.packed.specs.Layout.{header_of};
-ghost use Rattle.image.specs.Load.{judged, load_of, number_of, place_of};
+ghost use Rattle.image.specs.Load.{error_number, error_place, judged, load_of};
 
 use packed::layout::{Header, header_of, size_of};
-use records::first::Found;
 use records::{bad_record, is_node};
 use tree::lowest_fault;
 
-// What loading finds: the image's numbers, or the refusal with its place.
-#[derive(Clone, Copy)]
-pub enum Loaded {
-    // the image loads
-    Image(Header),
+// Why an image does not load, with its place.
+#[derive(Clone, Copy, Debug, PartialEq, Eq)]
+pub enum LoadError {
     // 1: it is shorter than a header, or not as long as its header says
     BadLength,
     // 2: its edition or its root
@@ -25,30 +22,27 @@ pub enum Loaded {
     BadTree(usize),
 }
 
-impl Loaded {
-    // 01's number of the refusal, 0 where there is none.
+impl LoadError {
+    // 01's number of the refusal.
     pub fn number(self) -> u8
-        ensures { result ≡ number_of self }
+        ensures { result ≡ error_number self }
     {
         match self {
-            Loaded::Image(_) => 0,
-            Loaded::BadLength => 1,
-            Loaded::BadHeader => 2,
-            Loaded::BadRecord(_) => 3,
-            Loaded::BadTree(_) => 4,
+            LoadError::BadLength => 1,
+            LoadError::BadHeader => 2,
+            LoadError::BadRecord(_) => 3,
+            LoadError::BadTree(_) => 4,
         }
     }
 
-    // 01's place of the refusal, 0 where there is none.
+    // 01's place of the refusal, 0 where it has none.
     pub fn place(self) -> usize
-        ensures { result ≡ place_of self }
+        ensures { result ≡ error_place self }
     {
         match self {
-            Loaded::BadRecord(at) => at,
-            Loaded::BadTree(n) => n,
-            Loaded::Image(_) => 0,
-            Loaded::BadLength => 0,
-            Loaded::BadHeader => 0,
+            LoadError::BadRecord(at) => at,
+            LoadError::BadTree(n) => n,
+            LoadError::BadLength | LoadError::BadHeader => 0,
         }
     }
 }
@@ -56,25 +50,26 @@ impl Loaded {
 // The one edition that loads.
 const EDITION: u8 = 1;
 
-fn judge(image: &[u8], h: Header) -> Loaded
+#[tactic(auto, unfolding(crate::specs::Load::judged))]
+fn judge(image: &[u8], h: Header) -> Result<Header, LoadError>
     requires { h ≡ header_of image.now }
     ensures { result ≡ judged image.now h }
 {
     if h.edition != EDITION {
-        return Loaded::BadHeader;
+        return Err(LoadError::BadHeader);
     }
     if image.len() != size_of(h) {
-        return Loaded::BadLength;
+        return Err(LoadError::BadLength);
     }
     if !is_node(h.root, h.nodes) {
-        return Loaded::BadHeader;
+        return Err(LoadError::BadHeader);
     }
-    match bad_record(image, h) {
-        Found::At(place) => Loaded::BadRecord(place),
-        Found::Nowhere => match lowest_fault(image, h) {
-            Found::At(n) => Loaded::BadTree(n),
-            Found::Nowhere => Loaded::Image(h),
-        },
+    if let Some(at) = bad_record(image, h) {
+        return Err(LoadError::BadRecord(at));
+    }
+    match lowest_fault(image, h) {
+        Some(n) => Err(LoadError::BadTree(n)),
+        None => Ok(h),
     }
 }
 
@@ -82,11 +77,12 @@ fn judge(image: &[u8], h: Header) -> Loaded
 const HEADER_LENGTH: usize = 8;
 
 // Whether an image loads, and the first refusal in 01's order where it does not.
-pub fn load(image: &[u8]) -> Loaded
+#[tactic(auto, unfolding(crate::specs::Load::load_of))]
+pub fn load(image: &[u8]) -> Result<Header, LoadError>
     ensures { result ≡ load_of image.now }
 {
     if image.len() < HEADER_LENGTH {
-        return Loaded::BadLength;
+        return Err(LoadError::BadLength);
     }
     judge(image, header_of(image))
 }
