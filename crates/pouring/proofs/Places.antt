@@ -6,39 +6,39 @@ use Prim.Native.Nat.{ℕ, suc, ◌+◌, ◌-◌, ◌*◌, ◌/◌, ◌%◌, ◌�
 use native.Mathlib.Nat.{add-zero}
 use native.Mathlib.Omega.{arith}
 use lib.ListN.{length, length-append}
-use types.Run.{OneOf, miss}
-use denote.Enum.Declared.{tag_of}
+use Rattle.std.specs.Prelude.{Result, Ok, Err}
 use Rattle.packed.specs.declared.layout.Header.{Header}
 use Rattle.rules.specs.declared.Value.{Value}
 use Rattle.rules.specs.Store.{Store}
 use Rattle.rules.specs.Output.{Piece, within, Encoded, bits, nested, full, after, and_then, written_by, pieces, encoded, packed}
-use Rattle.pouring.specs.contracts.Spot.{the_type}
 use Rattle.pouring.specs.declared.Spot.{Spot}
-use Rattle.pouring.specs.declared.Spot.TheVariants.{At, Nested, Full}
-use Rattle.pouring.specs.Pouring.{poured, Pours, spot_at, spot_of, Poured, Passed, Puts}
+use Rattle.pouring.specs.declared.NoPlace.{NoPlace}
+use Rattle.pouring.specs.declared.NoPlace.TheVariants.{Nested, Full}
+use Rattle.pouring.specs.Pouring.{poured, Pours, bits_before, IsPlace, spot_at, spot_of, Poured, Passed, Puts}
 use Rattle.pouring.proofs.Pouring.{pours_none, pours_then}
 use Rattle.pouring.proofs.Written.{then_none, written_append, written_keeps, KeepsRoom, Spells}
 
 -- ---- where the next bit goes
 
 -- a place is told of bits only, and says how many they are
-pub record Reached (p : ℕ) (e : Encoded) (b t : ℕ) : Type 0 where
+pub record Reached (p : ℕ) (e : Encoded) (s : Spot) : Type 0 where
   pub bs : List ℕ
   pub is : e ≡ bits bs
-  pub at : p + length bs ≡ 8 * b + t
-  pub small : t < 8
+  pub at : p + length bs ≡ bits_before s
+  pub small : s.bits < 8
 
-pub reached : (p : ℕ) (e : Encoded) (b t : ℕ) → At b t ≡ spot_of p e → Reached p e b t
-reached p (bits bs) b t e =
-    let whole : b ≡ (p + length bs) / 8 = cc in
-    let some : t ≡ (p + length bs) % 8 = cc in
+pub reached : (p : ℕ) (e : Encoded) (s : Spot) → Ok s ≡ spot_of p e → Reached p e s
+reached p (bits bs) s e =
+    let is : s ≡ spot_at (p + length bs) = cc in
+    let whole : s.bytes ≡ (p + length bs) / 8 = ap (λ (t : Spot). t.bytes) is in
+    let some : s.bits ≡ (p + length bs) % 8 = ap (λ (t : Spot). t.bits) is in
     record { bs = bs; is = refl; at = omega arith; small = omega arith }
-reached p nested b t e = absurd (let z : ◌≡◌ {A = ℕ} 0 1 = cc in omega arith)
-reached p full b t e = absurd (let z : ◌≡◌ {A = ℕ} 0 1 = cc in omega arith)
+reached p nested s e = cc
+reached p full s e = cc
 
 -- ---- bits written, bits measured, and no bits
 
-module _ (writing : Bool) (p : ℕ) (bs out : List ℕ) (r : Spot) (told : r ≡ spot_at (p + length bs)) where
+module _ (writing : Bool) (p : ℕ) (bs out : List ℕ) (r : Result Spot NoPlace) (told : r ≡ Ok (spot_at (p + length bs))) where
   pub poured_written : writing ≡ true → (out' : List ℕ) → Pours p bs out out' → Poured writing p (bits bs) out out' r
   poured_written w out' pours =
       record {
@@ -54,10 +54,10 @@ module _ (writing : Bool) (p : ℕ) (bs out : List ℕ) (r : Spot) (told : r ≡
 poured_none : (writing : Bool) (p : ℕ) (e : Encoded) (out : List ℕ) → ((bs : List ℕ) → e ≡ bits bs → ⊥) → Poured writing p e out out (spot_of p e)
 poured_none writing p e out none = record { told = refl; written = λ t bs q. absurd (none bs q); kept = λ f. refl; long = refl }
 
-pub poured_nested : (writing : Bool) (p : ℕ) (out : List ℕ) → Poured writing p nested out out Nested
+pub poured_nested : (writing : Bool) (p : ℕ) (out : List ℕ) → Poured writing p nested out out (Err Nested)
 poured_nested writing p out = poured_none writing p nested out (λ bs q. let z : ◌≡◌ {A = ℕ} 0 1 = cc in omega arith)
 
-pub poured_full : (writing : Bool) (p : ℕ) (out : List ℕ) → Poured writing p full out out Full
+pub poured_full : (writing : Bool) (p : ℕ) (out : List ℕ) → Poured writing p full out out (Err Full)
 poured_full writing p out = poured_none writing p full out (λ bs q. let z : ◌≡◌ {A = ℕ} 0 1 = cc in omega arith)
 
 -- ---- one encoding after another
@@ -65,7 +65,7 @@ poured_full writing p out = poured_none writing p full out (λ bs q. let z : ◌
 spot_after : (p : ℕ) (cs : List ℕ) (e : Encoded) → spot_of (p + length cs) e ≡ spot_of p (after cs e)
 spot_after p cs (bits bs) =
     let n : p + length cs + length bs ≡ p + length (cs ++ bs) = omega (arith, length-append cs bs) in
-    ap spot_at n
+    ap (λ (k : ℕ). Ok (spot_at k)) n
 spot_after p cs nested = refl
 spot_after p cs full = refl
 
@@ -77,7 +77,7 @@ pours_after {p} {cs} {out} {out₁} {out₂} (bits bs) ds first second q =
 pours_after nested ds first second q = absurd (let z : ◌≡◌ {A = ℕ} 0 1 = cc in omega arith)
 pours_after full ds first second q = absurd (let z : ◌≡◌ {A = ℕ} 0 1 = cc in omega arith)
 
-pub poured_then : {writing : Bool} {p : ℕ} {cs out out₁ out₂ : List ℕ} {r₁ r : Spot} (e : Encoded)
+pub poured_then : {writing : Bool} {p : ℕ} {cs out out₁ out₂ : List ℕ} {r₁ r : Result Spot NoPlace} (e : Encoded)
     → Poured writing p (bits cs) out out₁ r₁ → Poured writing (p + length cs) e out₁ out₂ r → Poured writing p (after cs e) out out₂ r
 poured_then {p = p} {cs = cs} e first second =
     record {
@@ -88,49 +88,37 @@ poured_then {p = p} {cs = cs} e first second =
     }
 
 -- the rest, from the place that the first came to
-pub poured_on : {writing : Bool} {p b t : ℕ} {out out₁ out₂ : List ℕ} {r : Spot} (e : Encoded) (on : List ℕ → Encoded) → Poured writing p e out out₁ (At b t)
-    → ((bs : List ℕ) → e ≡ bits bs → p + length bs ≡ 8 * b + t → Poured writing (8 * b + t) (on bs) out₁ out₂ r) → Poured writing p (and_then e on) out out₂ r
-poured_on {writing} {p} {b} {t} {out} {out₁} {out₂} {r} (bits bs) on first rest =
-    let here = reached p (bits bs) b t first.told in
+pub poured_on : {writing : Bool} {p : ℕ} {s : Spot} {out out₁ out₂ : List ℕ} {r : Result Spot NoPlace} (e : Encoded) (on : List ℕ → Encoded) → Poured writing p e out out₁ (Ok s)
+    → ((bs : List ℕ) → e ≡ bits bs → p + length bs ≡ bits_before s → Poured writing (bits_before s) (on bs) out₁ out₂ r) → Poured writing p (and_then e on) out out₂ r
+poured_on {writing} {p} {s} {out} {out₁} {out₂} {r} (bits bs) on first rest =
+    let here = reached p (bits bs) s first.told in
     let same : here.bs ≡ bs = cc here.is in
-    let at : p + length bs ≡ 8 * b + t = ap (λ (l : List ℕ). p + length l) (sym same) ∙ here.at in
+    let at : p + length bs ≡ bits_before s = ap (λ (l : List ℕ). p + length l) (sym same) ∙ here.at in
     poured_then (on bs) first (subst (λ (n : ℕ). Poured writing n (on bs) out₁ out₂ r) (sym at) (rest bs refl at))
-poured_on {p = p} {b = b} {t = t} nested on first rest = absurd (let z : ◌≡◌ {A = ℕ} 0 1 = cc first.told in omega arith)
-poured_on {p = p} {b = b} {t = t} full on first rest = absurd (let z : ◌≡◌ {A = ℕ} 0 1 = cc first.told in omega arith)
+poured_on {p = p} {s = s} nested on first rest = absurd (let z : ◌≡◌ {A = ℕ} 0 1 = cc first.told in omega arith)
+poured_on {p = p} {s = s} full on first rest = absurd (let z : ◌≡◌ {A = ℕ} 0 1 = cc first.told in omega arith)
 
 -- what has no place to go on from ends all
-pub poured_stop : {writing : Bool} {p : ℕ} {out out' : List ℕ} {r : Spot} (e : Encoded) (on : List ℕ → Encoded)
-    → ((b t : ℕ) → r ≡ At b t → ⊥) → Poured writing p e out out' r → Poured writing p (and_then e on) out out' r
-poured_stop {p = p} (bits bs) on stop first = absurd (stop ((p + length bs) / 8) ((p + length bs) % 8) first.told)
-poured_stop nested on stop first = first
-poured_stop full on stop first = first
-
-pub nested_stops : (b t : ℕ) → Nested ≡ At b t → ⊥
-nested_stops b t e = let z : ◌≡◌ {A = ℕ} 0 1 = cc in omega arith
-
-pub full_stops : (b t : ℕ) → Full ≡ At b t → ⊥
-full_stops b t e = let z : ◌≡◌ {A = ℕ} 0 1 = cc in omega arith
-
--- whatever is told but a place
-pub no_place : (r : Spot) → OneOf (1 ∷ 2 ∷ []) (tag_of the_type r) → (b t : ℕ) → r ≡ At b t → ⊥
-no_place (At x y) keys b t e = miss (1 ∷ 2 ∷ []) 0 tt keys
-no_place Nested keys b t e = nested_stops b t e
-no_place Full keys b t e = full_stops b t e
+pub poured_stop : {writing : Bool} {p : ℕ} {out out' : List ℕ} {why : NoPlace} (e : Encoded) (on : List ℕ → Encoded)
+    → Poured writing p e out out' (Err why) → Poured writing p (and_then e on) out out' (Err why)
+poured_stop {p = p} {why = why} (bits bs) on first = absurd (let z : ◌≡◌ {A = ℕ} 0 1 = cc first.told in omega arith)
+poured_stop nested on first = first
+poured_stop full on first = first
 
 -- all of it, from the start
-pub poured_all : {bs out out' : List ℕ} {r : Spot} → Poured true 0 (bits bs) out out' r → out' ≡ poured out bs
+pub poured_all : {bs out out' : List ℕ} {r : Result Spot NoPlace} → Poured true 0 (bits bs) out out' r → out' ≡ poured out bs
 unfolding packed
 poured_all {bs} {out} done = (done.written refl bs refl).after out [] refl refl
 
 -- ---- pieces
 
 module _ {image : List ℕ} {h : Header} {σ : Store} {write : ℕ → Value → Encoded} {writing : Bool} {p : ℕ} {out : List ℕ} where
-  pub passed_none : (r : Spot) → r ≡ spot_at p → Passed image h σ write writing p [] out out r
+  pub passed_none : (r : Result Spot NoPlace) → r ≡ Ok (spot_at p) → Passed image h σ write writing p [] out out r
   unfolding written_by
   passed_none r e =
       record {
         is = record {
-          told = e ∙ ap spot_at (sym (add-zero p));
+          told = e ∙ ap (λ (k : ℕ). Ok (spot_at k)) (sym (add-zero p));
           written = λ t cs q. let same : [] ≡ cs = cc in subst (λ (l : List ℕ). Pours p l out out) same (pours_none p out);
           kept = λ f. refl;
           long = refl;
@@ -138,75 +126,74 @@ module _ {image : List ℕ} {h : Header} {σ : Store} {write : ℕ → Value →
       }
 
   -- a value within
-  pub passed_value : {v : Value} {out' : List ℕ} {r : Spot} → Poured writing p (write (8 * length out - p) v) out out' r
+  pub passed_value : {v : Value} {out' : List ℕ} {r : Result Spot NoPlace} → Poured writing p (write (8 * length out - p) v) out out' r
       → Passed image h σ write writing p (within v ∷ []) out out' r
   unfolding written_by
   passed_value {v} {out'} {r} one =
       record { is = subst (λ (e : Encoded). Poured writing p e out out' r) (sym (then_none (write (8 * length out - p) v))) one }
 
-  pub passed_then : {b t : ℕ} {ps qs : List Piece} {out₁ out₂ : List ℕ} {r : Spot} → Passed image h σ write writing p ps out out₁ (At b t)
-      → Passed image h σ write writing (8 * b + t) qs out₁ out₂ r → Passed image h σ write writing p (ps ++ qs) out out₂ r
-  passed_then {b} {t} {ps} {qs} {out₁} {out₂} {r} first second =
+  pub passed_then : {s : Spot} {ps qs : List Piece} {out₁ out₂ : List ℕ} {r : Result Spot NoPlace} → Passed image h σ write writing p ps out out₁ (Ok s)
+      → Passed image h σ write writing (bits_before s) qs out₁ out₂ r → Passed image h σ write writing p (ps ++ qs) out out₂ r
+  passed_then {s} {ps} {qs} {out₁} {out₂} {r} first second =
       let room = 8 * length out - p in
       let e = written_by image h σ write room ps in
       let on : List ℕ → Encoded = λ bs. written_by image h σ write (room - length bs) qs in
-      let rest : (bs : List ℕ) → e ≡ bits bs → p + length bs ≡ 8 * b + t → Poured writing (8 * b + t) (on bs) out₁ out₂ r =
+      let rest : (bs : List ℕ) → e ≡ bits bs → p + length bs ≡ bits_before s → Poured writing (bits_before s) (on bs) out₁ out₂ r =
       λ bs q at.
-      let left : 8 * length out₁ - (8 * b + t) ≡ room - length bs = omega (arith, first.is.long) in
-      subst (λ (n : ℕ). Poured writing (8 * b + t) (written_by image h σ write n qs) out₁ out₂ r) left second.is in
+      let left : 8 * length out₁ - bits_before s ≡ room - length bs = omega (arith, first.is.long) in
+      subst (λ (n : ℕ). Poured writing (bits_before s) (written_by image h σ write n qs) out₁ out₂ r) left second.is in
       record { is = subst (λ (e : Encoded). Poured writing p e out out₂ r) (sym (written_append image h σ write room ps qs)) (poured_on e on first.is rest) }
 
-  pub passed_stop : {ps : List Piece} {out' : List ℕ} {r : Spot} (qs : List Piece) → ((b t : ℕ) → r ≡ At b t → ⊥) → Passed image h σ write writing p ps out out' r
-      → Passed image h σ write writing p (ps ++ qs) out out' r
-  passed_stop {ps} {out'} {r} qs stop first =
+  pub passed_stop : {ps : List Piece} {out' : List ℕ} {why : NoPlace} (qs : List Piece) → Passed image h σ write writing p ps out out' (Err why)
+      → Passed image h σ write writing p (ps ++ qs) out out' (Err why)
+  passed_stop {ps} {out'} {why} qs first =
       let room = 8 * length out - p in
       record {
         is =
-            subst (λ (e : Encoded). Poured writing p e out out' r) (sym (written_append image h σ write room ps qs))
-            (poured_stop (written_by image h σ write room ps) (λ bs. written_by image h σ write (room - length bs) qs) stop first.is);
+            subst (λ (e : Encoded). Poured writing p e out out' (Err why)) (sym (written_append image h σ write room ps qs))
+            (poured_stop (written_by image h σ write room ps) (λ bs. written_by image h σ write (room - length bs) qs) first.is);
       }
 
-  pub passed_nested : {ps : List Piece} {out' : List ℕ} (qs : List Piece) → Passed image h σ write writing p ps out out' Nested → Passed image h σ write writing p (ps ++ qs) out out' Nested
-  passed_nested qs first = passed_stop qs nested_stops first
-
-  pub passed_full : {ps : List Piece} {out' : List ℕ} (qs : List Piece) → Passed image h σ write writing p ps out out' Full → Passed image h σ write writing p (ps ++ qs) out out' Full
-  passed_full qs first = passed_stop qs full_stops first
-
   -- the place that pieces came to is one
-  pub passed_at : {b t : ℕ} {ps : List Piece} {out' : List ℕ} → KeepsRoom write → p ≤ 8 * length out → Passed image h σ write writing p ps out out' (At b t)
-      → (t < 8) × (8 * b + t ≤ 8 * length out')
-  passed_at {b} {t} {ps} {out'} keep l first =
+  pub passed_at : {s : Spot} {ps : List Piece} {out' : List ℕ} → KeepsRoom write → p ≤ 8 * length out → Passed image h σ write writing p ps out out' (Ok s)
+      → IsPlace s out'
+  passed_at {s} {ps} {out'} keep l first =
       let room = 8 * length out - p in
-      let here = reached p (written_by image h σ write room ps) b t first.is.told in
-      (here.small, omega (arith, here.at, first.is.long, written_keeps image h σ write keep room ps here.bs here.is))
+      let here = reached p (written_by image h σ write room ps) s first.is.told in
+      record { small = here.small; within = omega (arith, here.at, first.is.long, written_keeps image h σ write keep room ps here.bs here.is) }
 
 -- the pieces of a value are its encoding, and past the allowance there is none
 module _ (image : List ℕ) (h : Header) (σ : Store) (v : Value) {writing : Bool} {p : ℕ} {out : List ℕ} where
-  pub poured_value : {out' : List ℕ} {r : Spot} (n : ℕ) → Passed image h σ (encoded image h σ n) writing p (pieces image h σ v) out out' r
+  pub poured_value : {out' : List ℕ} {r : Result Spot NoPlace} (n : ℕ) → Passed image h σ (encoded image h σ n) writing p (pieces image h σ v) out out' r
       → Poured writing p (encoded image h σ (suc n) (8 * length out - p) v) out out' r
   unfolding encoded
   poured_value n done = done.is
 
-  pub poured_too_deep : (room : ℕ) → Poured writing p (encoded image h σ 0 room v) out out Nested
+  pub poured_too_deep : (room : ℕ) → Poured writing p (encoded image h σ 0 room v) out out (Err Nested)
   unfolding encoded
   poured_too_deep room = poured_nested writing p out
 
 -- ---- pieces that hold no value
 
 module _ (writing : Bool) (p n : ℕ) (ps : List Piece) (bs out : List ℕ) (spells : Spells ps n bs) where
-  pub puts_no_room : p ≤ 8 * length out → 8 * length out < p + n → Puts writing p ps out out Full
+  pub puts_no_room : p ≤ 8 * length out → 8 * length out < p + n → Puts writing p ps out out (Err Full)
   puts_no_room l over =
       record {
         is = λ image h σ write. record {
           is =
-              subst (λ (e : Encoded). Poured writing p e out out Full) (sym (spells.lacks image h σ write (8 * length out - p) (omega arith)))
+              subst (λ (e : Encoded). Poured writing p e out out (Err Full)) (sym (spells.lacks image h σ write (8 * length out - p) (omega arith)))
               (poured_full writing p out);
         };
       }
 
-  module _ (r : Spot) (within : p + n ≤ 8 * length out) (told : r ≡ spot_at (p + n)) where
-    told_long : r ≡ spot_at (p + length bs)
-    told_long = told ∙ ap (λ (k : ℕ). spot_at (p + k)) (sym spells.long)
+  module _ (s : Spot) {q : ℕ} (at : q ≡ p + n) (within : q ≤ 8 * length out) (told : s ≡ spot_at q) where
+    abbrev r : Result Spot NoPlace
+    r = Ok s
+
+    told_long : r ≡ Ok (spot_at (p + length bs))
+    told_long =
+        let all : q ≡ p + length bs = omega (arith, spells.long) in
+        ap Ok (told ∙ ap spot_at all)
 
     puts_bits : (out' : List ℕ) → Poured writing p (bits bs) out out' r → Puts writing p ps out out' r
     puts_bits out' done =
@@ -224,17 +211,13 @@ module _ (writing : Bool) (p n : ℕ) (ps : List Piece) (bs out : List ℕ) (spe
     puts_written w out' pours = puts_bits out' (poured_written writing p bs out r told_long w out' pours)
 
 module _ {writing : Bool} {p : ℕ} {out : List ℕ} where
-  pub puts_then : {b t : ℕ} {ps qs : List Piece} {out₁ out₂ : List ℕ} {r : Spot} → Puts writing p ps out out₁ (At b t) → Puts writing (8 * b + t) qs out₁ out₂ r
+  pub puts_then : {s : Spot} {ps qs : List Piece} {out₁ out₂ : List ℕ} {r : Result Spot NoPlace} → Puts writing p ps out out₁ (Ok s) → Puts writing (bits_before s) qs out₁ out₂ r
       → Puts writing p (ps ++ qs) out out₂ r
   puts_then first second = record { is = λ image h σ write. passed_then (first.is image h σ write) (second.is image h σ write) }
 
-  pub puts_stop : {ps : List Piece} {out' : List ℕ} {r : Spot} (qs : List Piece) → ((b t : ℕ) → r ≡ At b t → ⊥) → Puts writing p ps out out' r → Puts writing p (ps ++ qs) out out' r
-  puts_stop qs stop first = record { is = λ image h σ write. passed_stop qs stop (first.is image h σ write) }
+  pub puts_stop : {ps : List Piece} {out' : List ℕ} {why : NoPlace} (qs : List Piece) → Puts writing p ps out out' (Err why) → Puts writing p (ps ++ qs) out out' (Err why)
+  puts_stop qs first = record { is = λ image h σ write. passed_stop qs (first.is image h σ write) }
 
-  pub puts_full : {ps : List Piece} {out' : List ℕ} (qs : List Piece) → Puts writing p ps out out' Full → Puts writing p (ps ++ qs) out out' Full
-  puts_full qs first = record { is = λ image h σ write. passed_full qs (first.is image h σ write) }
-
-  pub puts_at : {b t : ℕ} {ps : List Piece} {out' : List ℕ} → Header → Store → p ≤ 8 * length out → Puts writing p ps out out' (At b t)
-      → (t < 8) × (8 * b + t ≤ 8 * length out')
+  pub puts_at : {s : Spot} {ps : List Piece} {out' : List ℕ} → Header → Store → p ≤ 8 * length out → Puts writing p ps out out' (Ok s) → IsPlace s out'
   puts_at h σ l first =
       passed_at (record { keeps = λ room v bs e. absurd (let z : ◌≡◌ {A = ℕ} 0 1 = cc in omega arith) }) l (first.is [] h σ (λ room v. full))

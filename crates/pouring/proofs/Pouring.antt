@@ -3,11 +3,11 @@ use mathlib.Core.Path.{◌≡◌, refl, sym, ap, ap₂, ◌∙◌, subst}
 use mathlib.Core.List.{List, [], ◌∷◌, ◌++◌, append_assoc, append-nil}
 use Prim.Native.Nat.{ℕ, suc, ◌+◌, ◌-◌, ◌*◌, ◌/◌, ◌%◌, ◌^◌, ◌≤◌, ◌<◌}
 use native.Mathlib.Decide.{dec_le}
-use native.Mathlib.Nat.{add-zero, mod-eq_of_lt, div-eq_of_lt, sub_self}
+use native.Mathlib.Nat.{mod-eq_of_lt, div-eq_of_lt, div-one, sub_self}
 use native.Mathlib.Numerals.{add-one}
 use native.Mathlib.Omega.{arith}
 use lib.ListN.{length, get_or, set, take, drop, length-append, length-drop, length-take, length-set, drop_of_length-le}
-use lib.Seq.{slice, slice_empty, take-suc, drop-append-le, drop-cons, set_at, get_or_at, append_snoc}
+use lib.Seq.{take-suc, drop-append-le, drop-cons, set_at, get_or_at, append_snoc}
 use lib.Pow.{shr-shr}
 use Rattle.rules.specs.Output.{bits_of, byte_of, packed, bytes_for}
 use Rattle.pouring.specs.Pouring.{poured, Pours, filled, byte_bits}
@@ -41,6 +41,30 @@ pours_part d t r x v {p} {q} {out} {out₁} {out₂} first second at e =
     ap₂ ◌++◌ (ap (bits_of d) (sym (shr-shr x r t))) (ap (bits_of t) e ∙ bits_low t (x / 2 ^ r)) ∙ sym (bits_split d t (x / 2 ^ r)) in
     subst (λ (l : List ℕ). Pours p l out out₂) digits both
 
+-- t of the bits that are left of a number of w bits: v is the part that they are
+pub pours_more : (w left t x v : ℕ) {p q : ℕ} {out out₁ out₂ : List ℕ} → Pours p (bits_of (w - left) (x / 2 ^ left)) out out₁ → Pours q (bits_of t v) out₁ out₂
+    → t ≤ left → left ≤ w → q + left ≡ p + w → v ≡ x / 2 ^ (left - t) % 2 ^ t → Pours p (bits_of (w - (left - t)) (x / 2 ^ (left - t))) out out₂
+pours_more w left t x v {p} {q} {out} {out₁} {out₂} first second part fits at e =
+    let all : left ≡ left - t + t = omega arith in
+    let long : w - left + t ≡ w - (left - t) = omega arith in
+    let here : q ≡ p + (w - left) = omega arith in
+    subst (λ (n : ℕ). Pours p (bits_of n (x / 2 ^ (left - t))) out out₂) long
+    (pours_part (w - left) t (left - t) x v (subst (λ (n : ℕ). Pours p (bits_of (w - left) (x / 2 ^ n)) out out₁) all first) second here e)
+
+-- none is left
+pub pours_all : (w left x : ℕ) {p : ℕ} {out out₁ : List ℕ} → left ≡ 0 → Pours p (bits_of (w - left) (x / 2 ^ left)) out out₁ → Pours p (bits_of w x) out out₁
+pours_all w left x {p} {out} {out₁} none first =
+    let number : x / 2 ^ left ≡ x = ap (λ (n : ℕ). x / 2 ^ n) none ∙ div-one x in
+    let long : w - left ≡ w = omega arith in
+    subst (λ (n : ℕ). Pours p (bits_of w n) out out₁) number (subst (λ (n : ℕ). Pours p (bits_of n (x / 2 ^ left)) out out₁) long first)
+
+-- all of them
+pub pours_rest : (w left x v : ℕ) {p q : ℕ} {out out₁ out₂ : List ℕ} → Pours p (bits_of (w - left) (x / 2 ^ left)) out out₁ → Pours q (bits_of left v) out₁ out₂
+    → left ≤ w → q + left ≡ p + w → v ≡ x / 2 ^ 0 % 2 ^ left → Pours p (bits_of w x) out out₂
+pours_rest w left x v {p} {q} {out} {out₁} {out₂} first second fits at e =
+    let last = pours_more w left left x v first second (omega arith) fits at (rw sub_self e) in
+    pours_all w (left - left) x (sub_self left) last
+
 -- ---- bytes
 
 pub length-byte_bits : (xs : List ℕ) → length (byte_bits xs) ≡ 8 * length xs
@@ -51,32 +75,16 @@ byte_bits_snoc : (xs : List ℕ) (y : ℕ) → byte_bits (xs ++ (y ∷ [])) ≡ 
 byte_bits_snoc [] y = append-nil (bits_of 8 y)
 byte_bits_snoc (x ∷ xs) y = ap (λ (l : List ℕ). bits_of 8 x ++ l) (byte_bits_snoc xs y) ∙ sym (append_assoc (bits_of 8 x) (byte_bits xs) (bits_of 8 y))
 
-slice_more : (from i : ℕ) (l : List ℕ) → from + i < length l → slice from (from + (i + 1)) l ≡ slice from (from + i) l ++ (get_or l (from + i) 0 ∷ [])
-slice_more from i l h =
-    let next : from + (i + 1) ≡ suc (from + i) = omega arith in
-    ap (λ (n : ℕ). drop from (take n l)) next
-    ∙ ap (drop from) (take-suc l (from + i) 0 h)
-    ∙ drop-append-le from (take (from + i) l) (get_or l (from + i) 0 ∷ []) (omega (arith, length-take (from + i) l))
-
-pub length_part : (from n : ℕ) (l : List ℕ) → from + n ≤ length l → length (slice from (from + n) l) ≡ n
-length_part from n l h = omega (arith, length-drop from (take (from + n) l), length-take (from + n) l)
-
-pub pours_no_bytes : (source : List ℕ) (from p : ℕ) (out : List ℕ) → Pours p (byte_bits (slice from (from + 0) source)) out out
-pours_no_bytes source from p out =
-    let none : slice from (from + 0) source ≡ [] = ap (λ (n : ℕ). slice from n source) (add-zero from) ∙ slice_empty from source in
-    subst (λ (l : List ℕ). Pours p (byte_bits l) out out) (sym none) (pours_none p out)
-
 -- the byte after the first i
-pub pours_byte : (source : List ℕ) (from i : ℕ) {p q : ℕ} {out out₁ out₂ : List ℕ} → from + i < length source
-    → Pours p (byte_bits (slice from (from + i) source)) out out₁ → Pours q (bits_of 8 (get_or source (from + i) 0)) out₁ out₂
-    → q ≡ p + 8 * i → Pours p (byte_bits (slice from (from + (i + 1)) source)) out out₂
-pours_byte source from i {p} {q} {out} {out₁} {out₂} h first second at =
-    let part = slice from (from + i) source in
-    let y = get_or source (from + i) 0 in
-    let here : q ≡ p + length (byte_bits part) = omega (arith, length-byte_bits part, length_part from i source (omega arith)) in
+pub pours_byte : (source : List ℕ) (i : ℕ) {p q : ℕ} {out out₁ out₂ : List ℕ} → Pours p (byte_bits (take i source)) out out₁
+    → Pours q (bits_of 8 (get_or source i 0)) out₁ out₂ → i < length source → q ≡ p + 8 * i → Pours p (byte_bits (take (i + 1) source)) out out₂
+pours_byte source i {p} {q} {out} {out₁} {out₂} first second h at =
+    let part = take i source in
+    let y = get_or source i 0 in
+    let here : q ≡ p + length (byte_bits part) = omega (arith, length-byte_bits part, length-take i source) in
     let both = pours_then first (subst (λ (n : ℕ). Pours n (bits_of 8 y) out₁ out₂) here second) in
-    let all : byte_bits part ++ bits_of 8 y ≡ byte_bits (slice from (from + (i + 1)) source) =
-    sym (ap byte_bits (slice_more from i source h) ∙ byte_bits_snoc part y) in
+    let all : byte_bits part ++ bits_of 8 y ≡ byte_bits (take (i + 1) source) =
+    sym (ap (λ (n : ℕ). byte_bits (take n source)) (add-one i) ∙ ap byte_bits (take-suc source i 0 h) ∙ byte_bits_snoc part y) in
     subst (λ (l : List ℕ). Pours p l out out₂) all both
 
 -- ---- a byte's part

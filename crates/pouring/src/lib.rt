@@ -2,68 +2,49 @@
 // whole bytes and bits of the next one. The same calls measure: where `writing` is false they only tell the place.
 #![tactic(auto)]
 
-ghost use Rattle.std.specs.Prelude.{◌≡◌, [], ◌∷◌, ◌+◌, ◌-◌, ◌*◌, ◌/◌, ◌^◌, ◌≤◌, ◌<◌, leb, length};
-ghost use Rattle.std.proofs.Math.Seq.{slice};
+ghost use Rattle.std.specs.Prelude.{◌≡◌, [], ◌∷◌, ◌+◌, ◌*◌, ◌/◌, ◌^◌, ◌≤◌, ◌<◌, leb, length};
 ghost use Rattle.rules.specs.Output.{bits_of, byte_pieces};
 ghost use Rattle.rules.specs.Output.{put as piece};
-ghost use Rattle.pouring.specs.Pouring.{Pours, Puts, spot_at, filled, byte_bits};
+ghost use Rattle.pouring.specs.Pouring.{Pours, Puts, IsPlace, bits_before, spot_at, filled, byte_bits};
 
 use fields::cut;
 
-// Where the next bit goes, or why there is no place for it.
-#[derive(Clone, Copy)]
-pub enum Spot {
-    At(usize, u32),
+// Where the next bit goes: behind so many whole bytes, and bits of the next one.
+#[derive(Clone, Copy, Debug, PartialEq, Eq)]
+pub struct Spot {
+    pub bytes: usize,
+    pub bits: u32,
+}
+
+// Why there is no place.
+#[derive(Clone, Copy, Debug, PartialEq, Eq)]
+pub enum NoPlace {
     Nested,
     Full,
 }
 
-// Whether so many bits have room at a place.
-fn has_room(len: usize, bytes: usize, bits: u32, width: u32) -> bool
-    requires { (bits < 8) × (width ≤ 64) }
-    ensures { result ≡ leb (8 * bytes + bits + width) (8 * len) }
-{
-    let used = ((bits + width + 7) / 8) as usize;
-    if len < used {
-        return false;
+impl Spot {
+    // Whether so many bytes and bits more have room in so many bytes.
+    fn has_room(self, len: usize, whole: usize, more: u32) -> bool
+        requires { (self.bits < 8) × (self.bytes ≤ len) × (more ≤ 64) }
+        ensures { result ≡ leb (bits_before self + 8 * whole + more) (8 * len) }
+    {
+        let left = len - self.bytes;
+        let used = ((self.bits + more + 7) / 8) as usize;
+        whole <= left && used <= left - whole
     }
-    bytes <= len - used
-}
 
-// Whether so many bytes have room at a place.
-fn has_room_for(len: usize, bytes: usize, bits: u32, count: usize) -> bool
-    requires { bits < 8 }
-    ensures { result ≡ leb (8 * bytes + bits + 8 * count) (8 * len) }
-{
-    if len < count {
-        return false;
+    // The place so many bytes and bits on.
+    fn on(self, whole: usize, more: u32) -> Spot
+        requires { (self.bits < 8) × (more ≤ 64) × ((bits_before self + 8 * whole + more) / 8 < 2 ^ 64) }
+        ensures { result ≡ spot_at (bits_before self + 8 * whole + more) }
+    {
+        let bits = self.bits + more;
+        Spot {
+            bytes: self.bytes + whole + (bits / 8) as usize,
+            bits: bits % 8,
+        }
     }
-    if bits == 0 {
-        return bytes <= len - count;
-    }
-    bytes < len - count
-}
-
-// The place so many bits on.
-fn spot_at(bytes: usize, bits: u32) -> Spot
-    requires { (8 * bytes + bits) / 8 < 2 ^ 64 }
-    ensures { result ≡ spot_at (8 * bytes + bits) }
-{
-    Spot::At(bytes + (bits / 8) as usize, bits % 8)
-}
-
-fn up(x: u64, k: u32) -> u64
-    requires { (k < 64) × (x * 2 ^ k < 2 ^ 64) }
-    ensures { result ≡ x * 2 ^ k }
-{
-    x << k
-}
-
-fn down(x: u64, k: u32) -> u64
-    requires { k < 64 }
-    ensures { result ≡ x / 2 ^ k }
-{
-    x >> k
 }
 
 // A byte that keeps its first `used` bits, with x in the `width` bits after them and then zeros.
@@ -72,7 +53,7 @@ fn with_bits(old: u8, used: u32, width: u32, x: u64) -> u8
     ensures { result ≡ filled old used width x }
 {
     let rest = 8 - used;
-    (up(down(old as u64, rest), rest) + up(x, rest - width)) as u8
+    ((u64::from(old) >> rest << rest) + (x << (rest - width))) as u8
 }
 
 // Pours bits into one byte.
@@ -84,71 +65,58 @@ fn fill(out: &mut [u8], at: usize, used: u32, width: u32, x: u64)
 }
 
 // Pours the low `width` bits of x, a byte's part at a time.
-fn pour(out: &mut [u8], bytes: usize, bits: u32, width: u32, x: u64)
-    requires { (bits < 8) × (width ≤ 64) × (8 * bytes + bits + width ≤ 8 * length out.old) }
-    ensures { Pours (8 * bytes + bits) (bits_of width x) out.old out.new }
+fn pour(out: &mut [u8], spot: Spot, width: u32, x: u64)
+    requires { (spot.bits < 8) × (width ≤ 64) × (bits_before spot + width ≤ 8 * length out.old) }
+    ensures { Pours (bits_before spot) (bits_of width x) out.old out.new }
 {
-    let mut at = bytes;
-    let mut used = bits;
+    let end = spot.bytes + ((spot.bits + width) / 8) as usize;
+    let mut used = spot.bits;
     let mut left = width;
-    while 8 <= used + left {
+    for at in spot.bytes..end {
         let part = 8 - used;
-        left = left - part;
+        left -= part;
         fill(out, at, used, part, cut(x, left, part));
-        at = at + 1;
         used = 0;
     }
-    if left == 0 {
-        return;
+    if left > 0 {
+        fill(out, end, used, left, cut(x, 0, left));
     }
-    fill(out, at, used, left, cut(x, 0, left));
 }
 
-// Pours so many bytes of a source.
-fn pour_bytes(source: &[u8], from: usize, count: usize, out: &mut [u8], bytes: usize, bits: u32)
-    requires { (from + count ≤ length source.now) × (bits < 8) × (8 * bytes + bits + 8 * count ≤ 8 * length out.old) }
-    ensures { Pours (8 * bytes + bits) (byte_bits (slice from (from + count) source.now)) out.old out.new }
+// Pours bytes.
+fn pour_bytes(source: &[u8], out: &mut [u8], spot: Spot)
+    requires { (spot.bits < 8) × (bits_before spot + 8 * length source.now ≤ 8 * length out.old) }
+    ensures { Pours (bits_before spot) (byte_bits source.now) out.old out.new }
 {
-    let mut i = 0;
-    while i < count {
-        pour(out, bytes + i, bits, 8, source[from + i] as u64);
-        i = i + 1;
+    for (i, byte) in source.iter().enumerate() {
+        pour(out, spot.on(i, 0), 8, u64::from(*byte));
     }
 }
 
 // The low `width` bits of x.
-pub fn put(out: &mut [u8], writing: bool, bytes: usize, bits: u32, width: u32, x: u64) -> Spot
-    requires { (bits < 8) × (width ≤ 64) × (8 * bytes + bits ≤ 8 * length out.old) }
-    ensures { Puts writing (8 * bytes + bits) (piece width x ∷ []) out.old out.new result }
+pub fn put(out: &mut [u8], writing: bool, spot: Spot, width: u32, x: u64) -> Result<Spot, NoPlace>
+    requires { IsPlace spot out.old × (width ≤ 64) }
+    ensures { Puts writing (bits_before spot) (piece width x ∷ []) out.old out.new result }
 {
-    if !has_room(out.len(), bytes, bits, width) {
-        return Spot::Full;
-    }
-    if !writing {
-        return spot_at(bytes, bits + width);
-    }
-    pour(out, bytes, bits, width, x);
-    spot_at(bytes, bits + width)
-}
-
-// Bytes of a source.
-pub fn put_bytes(
-    source: &[u8],
-    from: usize,
-    count: usize,
-    out: &mut [u8],
-    writing: bool,
-    bytes: usize,
-    bits: u32,
-) -> Spot
-    requires { (from + count ≤ length source.now) × (bits < 8) × (8 * bytes + bits ≤ 8 * length out.old) }
-    ensures { Puts writing (8 * bytes + bits) (byte_pieces (slice from (from + count) source.now)) out.old out.new result }
-{
-    if !has_room_for(out.len(), bytes, bits, count) {
-        return Spot::Full;
+    if !spot.has_room(out.len(), 0, width) {
+        return Err(NoPlace::Full);
     }
     if writing {
-        pour_bytes(source, from, count, out, bytes, bits);
+        pour(out, spot, width, x);
     }
-    Spot::At(bytes + count, bits)
+    Ok(spot.on(0, width))
+}
+
+// Bytes.
+pub fn put_bytes(source: &[u8], out: &mut [u8], writing: bool, spot: Spot) -> Result<Spot, NoPlace>
+    requires { IsPlace spot out.old }
+    ensures { Puts writing (bits_before spot) (byte_pieces source.now) out.old out.new result }
+{
+    if !spot.has_room(out.len(), source.len(), 0) {
+        return Err(NoPlace::Full);
+    }
+    if writing {
+        pour_bytes(source, out, spot);
+    }
+    Ok(spot.on(source.len(), 0))
 }
