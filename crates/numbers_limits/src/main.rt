@@ -2,9 +2,9 @@
 // oracle/numbers.rs writes.
 #![tactic(auto)]
 
-use numbers::decimal::{Put, put_decimal};
+use numbers::decimal::put_decimal;
 use numbers::word::{float_to_word, int_to_word, word_to_float, word_to_int};
-use numbers::{Arith, ArithRefusal, Binary};
+use numbers::{Number, OpError};
 use std::io;
 
 // The limits, and the shift operands 63, 64 and 4294967295; -1, 0 and 4294967296 are among the limits.
@@ -26,20 +26,17 @@ const INTS: [i64; 15] = [
     4294967295,
 ];
 
-// The float limits, by number: a constant cannot hold an infinity or a NaN.
-fn float(i: usize) -> f64 {
-    match i {
-        0 => 0.0,
-        1 => -0.0,
-        2 => 1.0,
-        3 => -1.0,
-        4 => 1e308,
-        5 => 5e-324,
-        6 => 1.0 / 0.0,
-        7 => -1.0 / 0.0,
-        _ => 0.0 / 0.0,
-    }
-}
+const FLOATS: [f64; 9] = [
+    0.0,
+    -0.0,
+    1.0,
+    -1.0,
+    1e308,
+    5e-324,
+    f64::INFINITY,
+    f64::NEG_INFINITY,
+    f64::NAN,
+];
 
 // Words at the ends of each kind of float: zeros, subnormals, ones, infinities, and the first and last NaN of each sign.
 const WORDS: [u64; 12] = [
@@ -57,21 +54,9 @@ const WORDS: [u64; 12] = [
     0xffff_ffff_ffff_ffff,
 ];
 
-// The words of the integers, and then the others, by number.
-fn word(k: usize) -> u64 {
-    if k < 15 {
-        return int_to_word(INTS[k]);
-    }
-    if k < 27 {
-        return WORDS[k - 15];
-    }
-    0
-}
-
 fn print_int(rt: &impl Print, x: i64) -> io::Result<()> {
     let mut text = [0u8; 20];
-    let put = put_decimal(&mut text, 0, x);
-    let Put::End(n) = put else {
+    let Some(n) = put_decimal(&mut text, 0, x) else {
         return Ok(());
     };
     rt.write_all(&text[..n])
@@ -82,66 +67,31 @@ fn print_word(rt: &impl Print, w: u64) -> io::Result<()> {
 }
 
 // A refusal by its number; 0, which none has, stands for an op that is not listed.
-fn print_refused(rt: &impl Print, number: u64) -> io::Result<()> {
+fn print_refused(rt: &impl Print, why: OpError) -> io::Result<()> {
+    let number = match why {
+        OpError::Arithmetic(why) => why.number(),
+        OpError::NotConst => 12,
+        OpError::Unlisted => 0,
+    };
     print!(rt; "!{number}")
 }
 
-fn print_arith_refusal(rt: &impl Print, why: ArithRefusal) -> io::Result<()> {
-    match why {
-        ArithRefusal::Overflow => print_refused(rt, 16),
-        ArithRefusal::Division => print_refused(rt, 17),
-        ArithRefusal::ShiftOperand => print_refused(rt, 18),
-    }
-}
-
-fn print_bool(rt: &impl Print, b: bool) -> io::Result<()> {
-    if b {
-        rt.write_all(b"true")
-    } else {
-        rt.write_all(b"false")
-    }
-}
-
-fn print_arith(rt: &impl Print, a: Arith) -> io::Result<()> {
+fn print_assigned(rt: &impl Print, given: Result<i64, OpError>) -> io::Result<()> {
     rt.write_all(b" ")?;
-    match a {
-        Arith::Value(z) => print_int(rt, z),
-        Arith::Refused(why) => print_arith_refusal(rt, why),
-        Arith::Unlisted => print_refused(rt, 0),
+    match given {
+        Ok(z) => print_int(rt, z),
+        Err(why) => print_refused(rt, why),
     }
 }
 
-fn print_binary(rt: &impl Print, b: Binary) -> io::Result<()> {
+fn print_number(rt: &impl Print, given: Result<Number, OpError>) -> io::Result<()> {
     rt.write_all(b" ")?;
-    match b {
-        Binary::Signed(z) => print_int(rt, z),
-        Binary::Float(z) => print_word(rt, float_to_word(z)),
-        Binary::Bool(z) => print_bool(rt, z),
-        Binary::Refused(why) => print_arith_refusal(rt, why),
-        Binary::NotConst => print_refused(rt, 12),
-        Binary::Unlisted => print_refused(rt, 0),
+    match given {
+        Ok(Number::Signed(z)) => print_int(rt, z),
+        Ok(Number::Float(z)) => print_word(rt, float_to_word(z)),
+        Ok(Number::Bool(z)) => print!(rt; "{z}"),
+        Err(why) => print_refused(rt, why),
     }
-}
-
-fn binary_ints(rt: &impl Print, x: i64, y: i64) -> io::Result<()> {
-    for op in 0..11 {
-        print_binary(rt, numbers::binary_int(op, x, y))?;
-    }
-    Ok(())
-}
-
-fn assign_ints(rt: &impl Print, x: i64, y: i64) -> io::Result<()> {
-    for op in 0..6 {
-        print_arith(rt, numbers::assign_int(op, x, y))?;
-    }
-    Ok(())
-}
-
-fn binary_floats(rt: &impl Print, x: f64, y: f64) -> io::Result<()> {
-    for op in 0..11 {
-        print_binary(rt, numbers::binary_float(op, x, y))?;
-    }
-    Ok(())
 }
 
 fn int_line(rt: &impl Print, x: i64, y: i64) -> io::Result<()> {
@@ -149,9 +99,13 @@ fn int_line(rt: &impl Print, x: i64, y: i64) -> io::Result<()> {
     rt.write_all(b" ")?;
     print_int(rt, y)?;
     rt.write_all(b":")?;
-    binary_ints(rt, x, y)?;
+    for op in 0..11 {
+        print_number(rt, numbers::binary_int(op, x, y))?;
+    }
     rt.write_all(b" assign")?;
-    assign_ints(rt, x, y)?;
+    for op in 0..6 {
+        print_assigned(rt, numbers::assign_int(op, x, y))?;
+    }
     rt.write_all(b"\n")
 }
 
@@ -160,7 +114,9 @@ fn float_line(rt: &impl Print, x: f64, y: f64) -> io::Result<()> {
     rt.write_all(b" ")?;
     print_word(rt, float_to_word(y))?;
     rt.write_all(b":")?;
-    binary_floats(rt, x, y)?;
+    for op in 0..11 {
+        print_number(rt, numbers::binary_float(op, x, y))?;
+    }
     rt.write_all(b"\n")
 }
 
@@ -177,21 +133,23 @@ fn word_line(rt: &impl Print, w: u64) -> io::Result<()> {
     rt.write_all(b"\n")
 }
 
-// The line with number k: the pairs of integers, the pairs of floats, the words.
-fn line(rt: &impl Print, k: usize) -> io::Result<()> {
-    if k < 225 {
-        return int_line(rt, INTS[k / 15], INTS[k % 15]);
-    }
-    if k < 306 {
-        let pair = k - 225;
-        return float_line(rt, float(pair / 9), float(pair % 9));
-    }
-    word_line(rt, word(k - 306))
-}
-
+// The lines of the pairs of integers, of the pairs of floats, and of the words: those of the integers, and then the others.
 fn main(rt: HostRuntime) -> io::Result<()> {
-    for k in 0..333 {
-        line(&rt, k)?;
+    for x in INTS {
+        for y in INTS {
+            int_line(&rt, x, y)?;
+        }
+    }
+    for x in FLOATS {
+        for y in FLOATS {
+            float_line(&rt, x, y)?;
+        }
+    }
+    for x in INTS {
+        word_line(&rt, int_to_word(x))?;
+    }
+    for w in WORDS {
+        word_line(&rt, w)?;
     }
     Ok(())
 }
