@@ -9,15 +9,16 @@ use lib.Dec.{leb}
 use lib.ListN.{length, set, take, length-append}
 use lib.Seq.{length-take-le}
 use Rattle.packed.specs.declared.layout.Header.{Header}
-use Rattle.numbers.specs.declared.decimal.Put.TheVariants.{End, NoRoom}
+use Rattle.std.specs.Prelude.{Some, None, Result, Ok, Err}
 use Rattle.numbers.specs.Decimal.{put_of, end_of}
 use Rattle.numbers.proofs.DecimalLaws.{ended, not_ended, take_put, length-put, take_put_end}
 use Rattle.rules.specs.declared.Value.TheVariants.{Text}
 use Rattle.rules.specs.declared.Refusal.TheVariants.{TextBytes}
-use Rattle.rules.specs.declared.Got.{Got}
-use Rattle.rules.specs.declared.Got.TheVariants.{Is, Not}
+use Rattle.rules.specs.declared.Value.{Value}
+use Rattle.rules.specs.declared.Refused.{Refused}
 use Rattle.rules.specs.Store.{with_text, text_of as text_in}
 use Rattle.rules.specs.Building.{gives, refuses, built_text}
+use Rattle.rules.specs.Targets.{refusing}
 use Rattle.texts.specs.Text.{pool_text, joined}
 use Rattle.stores.specs.Stores.{text_of, store_of, MakesText}
 use Rattle.stores.proofs.Numbers.{text_set, kept_text}
@@ -44,7 +45,7 @@ module _ (image : List ℕ) (h : Header) (n start len start' len' : ℕ) (run by
   abbrev two : List ℕ
   two = pool_text image h made bytes start' len'
 
-  abbrev Joins : Got → List ℕ → List ℕ → Type 0
+  abbrev Joins : Result Value Refused → List ℕ → List ℕ → Type 0
   Joins r run' bytes' = MakesText r (joined image h n start len start' len') run bytes run' bytes'
 
   module _ (full : length bytes ≡ 16384) (fits : made ≤ 16384) where
@@ -57,17 +58,17 @@ module _ (image : List ℕ) (h : Header) (n start len start' len' : ℕ) (run by
     joined_is words = rw (length-take-le (text_of run) bytes (omega arith))
 
     refused : (bytes' : List ℕ) → 16384 < made + length (one ++ two) → take made bytes' ≡ take made bytes → length bytes' ≡ length bytes
-        → Joins (Not TextBytes n) run bytes'
+        → Joins (Err (refusing TextBytes n)) run bytes'
     refused bytes' over same long words f =
         record {
           did = joined_is words ∙ rw (lt-leb (made + length (one ++ two)) 16384 over);
-          undone = λ why place e. store_kept run words bytes bytes' same;
+          undone = λ why e. store_kept run words bytes bytes' same;
           kept = kept_bytes f long;
         }
 
     given : (bytes' : List ℕ) (end : ℕ) → end ≡ made + length (one ++ two) → end ≤ 16384
         → take end bytes' ≡ take made bytes ++ (one ++ two) → length bytes' ≡ length bytes
-        → Joins (Is (Text (h.text + made) (end - made))) (set run 6 end) bytes'
+        → Joins (Ok (Text (h.text + made) (end - made))) (set run 6 end) bytes'
     given bytes' end e within same long words f =
         let count : length (one ++ two) ≡ end - made = omega arith in
         record {
@@ -75,7 +76,7 @@ module _ (image : List ℕ) (h : Header) (n start len start' len' : ℕ) (run by
               joined_is words
               ∙ rw (le-leb (made + length (one ++ two)) 16384 (omega arith), count, ← same)
               (ap (gives (Text (h.text + made) (end - made))) (sym (text_taken run words bytes bytes' end f.run_length)));
-          undone = λ why place q. let z : ◌≡◌ {A = ℕ} 0 1 = cc in absurd (omega arith);
+          undone = λ why q. let z : ◌≡◌ {A = ℕ} 0 1 = cc in absurd (omega arith);
           kept = kept_then (kept_bytes f long) (kept_text run words end bytes' f within);
         }
 
@@ -86,7 +87,7 @@ module _ (image : List ℕ) (h : Header) (n start len start' len' : ℕ) (run by
       long₁ : length bytes₁ ≡ length bytes
       long₁ = ap length put₁ ∙ length-put bytes made one
 
-      pub join_none : NoRoom ≡ end_of bytes made one → Joins (Not TextBytes n) run bytes₁
+      pub join_none : None ≡ end_of bytes made one → Joins (Err (refusing TextBytes n)) run bytes₁
       join_none e = refused bytes₁ (omega (arith, not_ended bytes made one e, length-append one two)) same₁ long₁
 
       abbrev next : List ℕ
@@ -96,21 +97,21 @@ module _ (image : List ℕ) (h : Header) (n start len start' len' : ℕ) (run by
       unfolding pool_text
       next_is = rw same₁
 
-      module _ (at : ℕ) (end₁ : End at ≡ end_of bytes made one) (bytes₂ : List ℕ) (put₂ : bytes₂ ≡ put_of bytes₁ at next) where
+      module _ (at : ℕ) (end₁ : Some at ≡ end_of bytes made one) (bytes₂ : List ℕ) (put₂ : bytes₂ ≡ put_of bytes₁ at next) where
         place : (at ≡ made + length one) × (at ≤ length bytes)
         place = ended bytes made one end₁
 
         long₂ : length bytes₂ ≡ length bytes
         long₂ = ap length put₂ ∙ length-put bytes₁ at next ∙ long₁
 
-        pub join_not : NoRoom ≡ end_of bytes₁ at next → Joins (Not TextBytes n) run bytes₂
+        pub join_not : None ≡ end_of bytes₁ at next → Joins (Err (refusing TextBytes n)) run bytes₂
         join_not e =
             refused bytes₂
             (omega (arith, not_ended bytes₁ at next e, length-append one two, place, long₁, ap length next_is))
             (ap (take made) put₂ ∙ take_put bytes₁ at next made (omega (arith, place)) ∙ same₁)
             long₂
 
-        pub join_all : (end : ℕ) → End end ≡ end_of bytes₁ at next → Joins (Is (Text (h.text + made) (end - made))) (set run 6 end) bytes₂
+        pub join_all : (end : ℕ) → Some end ≡ end_of bytes₁ at next → Joins (Ok (Text (h.text + made) (end - made))) (set run 6 end) bytes₂
         join_all end e =
             let last : (end ≡ at + length next) × (end ≤ length bytes₁) = ended bytes₁ at next e in
             given bytes₂ end

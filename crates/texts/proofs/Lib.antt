@@ -1,3 +1,4 @@
 pub mod Parts
+pub mod OkOr
 pub mod TextLaws
 pub mod Joins

@@ -9,11 +9,10 @@ use borrow.Rule.Slice.PartMut.{put_mid}
 use lib.ListN.{length, take, drop, length-append}
 use lib.Seq.{slice, drop-drop, length-take-le, take_at}
 use Rattle.std.specs.List.{copy_within}
-use Rattle.std.specs.Prelude.{min}
+use Rattle.std.specs.Prelude.{min, Some, None}
 use Rattle.std.proofs.lemmas.Slice.{drop-append-drop}
 use Rattle.packed.specs.declared.layout.Header.{Header}
 use Rattle.packed.specs.Layout.{text_at, size_of}
-use Rattle.numbers.specs.declared.decimal.Put.TheVariants.{End, NoRoom}
 use Rattle.numbers.specs.Decimal.{put_of, end_of}
 use Rattle.numbers.proofs.DecimalLaws.{no_room, take_put}
 use Rattle.rules.specs.Store.{image_text}
@@ -26,7 +25,7 @@ use Rattle.texts.proofs.Parts.{length_part, first_part_is, part_of_rest, part_of
 -- ---- a text put where there is room for it
 
 module _ (bytes : List ℕ) (at : ℕ) (text : List ℕ) where
-  pub end_is : (count : ℕ) → length text ≡ count → at + count ≤ length bytes → End (at + count) ≡ end_of bytes at text
+  pub end_is : (count : ℕ) → length text ≡ count → at + count ≤ length bytes → Some (at + count) ≡ end_of bytes at text
   unfolding end_of
   end_is count e h = rw (e, le-leb (at + count) (length bytes) h)
 
@@ -104,17 +103,17 @@ module _ (image : List ℕ) (h : Header) (whole : size_of h ≤ length image) (m
       ∙ ap₂ ◌+◌ long (length_part r.built.from r.built.count bytes (omega (arith, from.in_built)))
 
   module _ (at : ℕ) (before : made ≤ at) where
-    pub pool_none : length bytes < at + (r.image.count + r.built.count) → (NoRoom ≡ end_of bytes at text) × (bytes ≡ put_of bytes at text)
+    pub pool_none : length bytes < at + (r.image.count + r.built.count) → (None ≡ end_of bytes at text) × (bytes ≡ put_of bytes at text)
     pool_none over = go (dec_le made (length bytes))
       where
-        go : Dec (made ≤ length bytes) → (NoRoom ≡ end_of bytes at text) × (bytes ≡ put_of bytes at text)
+        go : Dec (made ≤ length bytes) → (None ≡ end_of bytes at text) × (bytes ≡ put_of bytes at text)
         go (yes p) = no_room bytes at text (omega (arith, pool_length p))
         go (no p) = no_room bytes at text (omega arith)
 
     -- what was built stands before the copies
     pub pool_all : (bytes₁ bytes₂ : List ℕ) → at + (r.image.count + r.built.count) ≤ length bytes
         → bytes₁ ≡ put_of bytes at first → bytes₂ ≡ copy_within bytes₁ r.built.from end (at + r.image.count)
-        → (End (at + (r.image.count + r.built.count)) ≡ end_of bytes at text) × (bytes₂ ≡ put_of bytes at text)
+        → (Some (at + (r.image.count + r.built.count)) ≡ end_of bytes at text) × (bytes₂ ≡ put_of bytes at text)
     pool_all bytes₁ bytes₂ within e₁ e₂ =
         let count = r.image.count + r.built.count in
         let size : length text ≡ count = pool_length (omega arith) in

@@ -10,9 +10,8 @@ ghost use Rattle.rules.specs.Output.{ascending};
 ghost use Rattle.texts.specs.Text.{bytes_of, Spans, first_part, image_part, pool_text, Sourced, joined};
 ghost use Rattle.stores.specs.Stores.{text_of, MakesText};
 
-use numbers::decimal::Put;
 use packed::layout::{Header, text_at};
-use rules::{Got, Refusal, Value};
+use rules::{Refusal, Refused, Value};
 use slots::{length_of, start_of};
 use stores::run::TEXT;
 
@@ -92,20 +91,20 @@ fn has_room(total: usize, at: usize, count: usize) -> bool
 }
 
 // Puts a text at `at` and gives its end, or changes nothing where it has no room.
-fn put_bytes(text: &[u8], bytes: &mut [u8], at: usize) -> Put
+fn put_bytes(text: &[u8], bytes: &mut [u8], at: usize) -> Option<usize>
     ensures end { result ≡ end_of bytes.old at text.now }
     ensures bytes { bytes.new ≡ put_of bytes.old at text.now }
 {
     if !has_room(bytes.len(), at, text.len()) {
-        return Put::NoRoom;
+        return None;
     }
     let end = at + text.len();
     bytes[at..end].copy_from_slice(text);
-    Put::End(end)
+    Some(end)
 }
 
 // Puts the text of a literal's payload.
-pub fn put_part(image: &[u8], h: Header, payload: u64, bytes: &mut [u8], at: usize) -> Put
+pub fn put_part(image: &[u8], h: Header, payload: u64, bytes: &mut [u8], at: usize) -> Option<usize>
     requires { size_of h ≤ length image.now }
     ensures end { result ≡ end_of bytes.old at (part_text image.now h payload) }
     ensures bytes { bytes.new ≡ put_of bytes.old at (part_text image.now h payload) }
@@ -132,7 +131,7 @@ pub fn put_text(
     len: u16,
     bytes: &mut [u8],
     at: usize,
-) -> Put
+) -> Option<usize>
     requires { (size_of h ≤ length image.now) × (made ≤ at) }
     ensures end { result ≡ end_of bytes.old at (pool_text image.now h made bytes.old start len) }
     ensures bytes { bytes.new ≡ put_of bytes.old at (pool_text image.now h made bytes.old start len) }
@@ -143,16 +142,16 @@ pub fn put_text(
     } = sources_of(h, made, start, len);
     let count = first.count + built.count;
     if !has_room(bytes.len(), at, count) {
-        return Put::NoRoom;
+        return None;
     }
     let middle = at + first.count;
     bytes[at..middle].copy_from_slice(first.of(image));
     bytes.copy_within(built.from..built.from + built.count, middle);
-    Put::End(at + count)
+    Some(at + count)
 }
 
 // Puts what a bool prints.
-pub fn put_bool(b: bool, bytes: &mut [u8], at: usize) -> Put
+pub fn put_bool(b: bool, bytes: &mut [u8], at: usize) -> Option<usize>
     ensures end { result ≡ end_of bytes.old at (bool_text b) }
     ensures bytes { bytes.new ≡ put_of bytes.old at (bool_text b) }
 {
@@ -171,19 +170,17 @@ pub fn join(
     len: u16,
     start2: u32,
     len2: u16,
-) -> Got
+) -> Result<Value, Refused>
     requires { (size_of h ≤ length image.now) × (length bytes.old ≡ 16384) × (length run.old ≡ 16) × (text_of run.old ≤ 16384) }
     ensures { MakesText result (joined image.now h n start len start2 len2) run.old bytes.old run.new bytes.new }
 {
+    let no_room = Refused {
+        why: Refusal::TextBytes,
+        place: n,
+    };
     let made = run[TEXT] as usize;
-    let first = put_text(image, h, made, start, len, bytes, made);
-    let Put::End(at) = first else {
-        return Got::Not(Refusal::TextBytes, n);
-    };
-    let second = put_text(image, h, made, start2, len2, bytes, at);
-    let Put::End(end) = second else {
-        return Got::Not(Refusal::TextBytes, n);
-    };
+    let middle = put_text(image, h, made, start, len, bytes, made).ok_or(no_room)?;
+    let end = put_text(image, h, made, start2, len2, bytes, middle).ok_or(no_room)?;
     run[TEXT] = end as u64;
-    Got::Is(Value::Text(h.text as u32 + made as u32, (end - made) as u16))
+    Ok(Value::Text(h.text as u32 + made as u32, (end - made) as u16))
 }
