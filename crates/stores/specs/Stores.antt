@@ -1,10 +1,8 @@
 -- The store of the rules as it stands in the lent words and bytes, and what a change of it promises. docs/STORES.md has the layout as a table.
-use Rattle.std.specs.Prelude.{ℕ, ◌/◌, ◌%◌, ◌≤◌, ◌≡◌, Bool, false, cond, List, eqb, length, get_or, take, drop}
+use Rattle.std.specs.Prelude.{ℕ, Result, Ok, Err, ◌/◌, ◌%◌, ◌≤◌, ◌≡◌, Bool, false, cond, List, eqb, length, get_or, take, drop}
 use Rattle.std.proofs.Math.Option.{Option, some, none}
 use Rattle.rules.specs.declared.Value.{Value}
-use Rattle.rules.specs.declared.Refusal.{Refusal}
-use Rattle.rules.specs.declared.Got.{Got}
-use Rattle.rules.specs.declared.Got.TheVariants.{Is, Not}
+use Rattle.rules.specs.declared.Refused.{Refused}
 use Rattle.rules.specs.Building.{Made, gives, refuses}
 use Rattle.rules.specs.Store.{Cell, head, item, entry, Binding, Store, most_cells, most_text, most_bindings, most_pending}
 use Rattle.slots.specs.Slot.{value_of}
@@ -103,13 +101,13 @@ pub record Tried (r : Bool) (f : Store → Option Store) (run words bytes run' w
   pub kept : Kept run bytes run' words' bytes'
 
 -- a value that is made, or a refusal, which leaves the store as it was
-abbrev pub made_by : Got → Store → Made
-made_by (Is v) σ = gives v σ
-made_by (Not why place) σ = refuses why place
+abbrev pub made_by : Result Value Refused → Store → Made
+made_by (Ok v) σ = gives v σ
+made_by (Err e) σ = refuses e.why e.place
 
-pub record Makes (r : Got) (f : Store → Made) (run words bytes run' words' bytes' : List ℕ) : Type 0 where
+pub record Makes (r : Result Value Refused) (f : Store → Made) (run words bytes run' words' bytes' : List ℕ) : Type 0 where
   pub did : f (store_of run words bytes) ≡ made_by r (store_of run' words' bytes')
-  pub undone : (why : Refusal) (place : ℕ) → r ≡ Not why place → store_of run' words' bytes' ≡ store_of run words bytes
+  pub undone : (e : Refused) → r ≡ Err e → store_of run' words' bytes' ≡ store_of run words bytes
   pub kept : Kept run bytes run' words' bytes'
 
 -- of a function that has no byte store, for whatever stands there
@@ -124,8 +122,8 @@ abbrev pub BecameRun : (Store → Store) → List ℕ → List ℕ → Type 0
 BecameRun f run run' = (words bytes : List ℕ) → Fits run words → Became f run words bytes run' words bytes
 
 -- of one that has no words, and of one that has no bytes
-abbrev pub MakesText : Got → (Store → Made) → List ℕ → List ℕ → List ℕ → List ℕ → Type 0
+abbrev pub MakesText : Result Value Refused → (Store → Made) → List ℕ → List ℕ → List ℕ → List ℕ → Type 0
 MakesText r f run bytes run' bytes' = (words : List ℕ) → Fits run words → Makes r f run words bytes run' words bytes'
 
-abbrev pub MakesWords : Got → (Store → Made) → List ℕ → List ℕ → List ℕ → List ℕ → Type 0
+abbrev pub MakesWords : Result Value Refused → (Store → Made) → List ℕ → List ℕ → List ℕ → List ℕ → Type 0
 MakesWords r f run words run' words' = (bytes : List ℕ) → Makes r f run words bytes run' words' bytes

@@ -12,3 +12,6 @@ pub const PENDING: usize = 4;
 pub const CELLS: usize = 5;
 
 pub const TEXT: usize = 6;
+
+// The cells that there are at most.
+pub const MOST_CELLS: u64 = 1024;
