@@ -17,7 +17,8 @@ use Rattle.rules.proofs.Going.{stay, ◌then◌}
 use Rattle.rules.proofs.Moves.{Enters, expression, body, entering_takes, again_takes, too_deep, entered_once, entered_first, entered_again, body_entered_lem}
 use Rattle.stores.specs.Stores.{store_of, takes_of, Fits}
 use Rattle.stores.proofs.Numbers.{fits_set}
-use Rattle.outcomes.specs.declared.Progress.{Progress}
+use Rattle.outcomes.specs.declared.Outcome.{Outcome}
+use Rattle.std.specs.declared.ops.ControlFlow.{ControlFlow}
 use Rattle.outcomes.specs.Post.{Starved}
 use Rattle.entering.specs.Entering.{Took, took, deep, spent, Entered}
 use Rattle.outcomes.proofs.KindLaws.{every_kind}
@@ -121,7 +122,7 @@ module _ (run words : List ℕ) (x : ℕ) (room : Fits run words) where
   still_fits =
       fits_set run words 0 x room (omega arith) (λ e. absurd (omega arith)) (λ e. absurd (omega arith)) (λ e. absurd (omega arith)) (λ e. absurd (omega arith))
 
-pub entered_by : {image : List ℕ} {h : Header} {t : Ctl} {n d takes : ℕ} {run run' : List ℕ} {r : Progress}
+pub entered_by : {image : List ℕ} {h : Header} {t : Ctl} {n d takes : ℕ} {run run' : List ℕ} {r : ControlFlow Outcome (Unit {0})}
     → Entry image h t n d takes → Took n d takes run run' r → Entered image h t n d run run' r
 entered_by {takes = takes} {run = run} entry (took fits enough) =
     let x = takes_of run - takes in

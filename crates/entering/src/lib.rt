@@ -6,9 +6,10 @@ ghost use Rattle.packed.specs.Layout.{size_of};
 ghost use Rattle.rules.specs.Machine.{Ctl, kind_of, takes_more};
 ghost use Rattle.entering.specs.Entering.{Took, Entered, BodyEntered};
 
-use outcomes::{Outcome, Progress};
+use outcomes::Outcome;
 use packed::layout::{Header, node_at};
 use rules::Refusal;
+use std::ops::ControlFlow;
 use stores::run::TAKES;
 
 // "scope, binary, decl, set, assign, template, loop and break take once more"
@@ -24,23 +25,30 @@ fn takes_of(kind: u8) -> u64
 }
 
 // "Depth: .. 129 is 7"; then so many takes at node n, of which those that are left are taken where there are not enough.
-fn take(run: &mut [u64; 16], n: u16, depth: u16, takes: u64) -> Progress
+#[tactic(auto, using(crate::specs::Entering::took, crate::specs::Entering::deep, crate::specs::Entering::spent))]
+fn take(run: &mut [u64; 16], n: u16, depth: u16, takes: u64) -> ControlFlow<Outcome>
     ensures { Took n depth takes run.old run.new result }
 {
     if 128 < depth {
-        return Progress::Out(Outcome::Refused(Refusal::Depth, n));
+        return ControlFlow::Break(Outcome::Refused(Refusal::Depth, n));
     }
     let left = run[TAKES];
     if left < takes {
         run[TAKES] = 0;
-        return Progress::Out(Outcome::Spent(n));
+        return ControlFlow::Break(Outcome::Spent(n));
     }
     run[TAKES] = left - takes;
-    Progress::On
+    ControlFlow::Continue(())
 }
 
 // "Entering an expression or body tests depth, then takes once", and eight kinds once more.
-pub fn enter_expr(image: &[u8], h: Header, run: &mut [u64; 16], n: u16, depth: u16) -> Progress
+pub fn enter_expr(
+    image: &[u8],
+    h: Header,
+    run: &mut [u64; 16],
+    n: u16,
+    depth: u16,
+) -> ControlFlow<Outcome>
     requires { (1 ≤ n) × (n ≤ h.nodes) × (size_of h ≤ length image.now) }
     ensures { Entered image.now h (Ctl.enter n depth) n depth run.old run.new result }
 {
@@ -50,7 +58,7 @@ pub fn enter_expr(image: &[u8], h: Header, run: &mut [u64; 16], n: u16, depth: u
 }
 
 // "A scope that is an arm's, a default, or a loop's body takes once in all", whatever the image.
-pub fn enter_body(run: &mut [u64; 16], n: u16, depth: u16) -> Progress
+pub fn enter_body(run: &mut [u64; 16], n: u16, depth: u16) -> ControlFlow<Outcome>
     ensures { BodyEntered n depth run.old run.new result }
 {
     take(run, n, depth, 1)

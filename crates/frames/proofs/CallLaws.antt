@@ -25,7 +25,7 @@ use Rattle.stores.proofs.PendingLaws.{length-pending}
 use Rattle.building.specs.Making.{IsKind}
 use Rattle.outcomes.specs.declared.Outcome.{Outcome}
 use Rattle.outcomes.specs.declared.Outcome.TheVariants.{Done, Broke, Refused}
-use Rattle.outcomes.specs.declared.Progress.TheVariants.{On, Out}
+use Rattle.std.specs.declared.ops.ControlFlow.TheVariants.{Continue, Break}
 use Rattle.outcomes.specs.Post.{EveryAfterRun}
 use Rattle.frames.specs.Calls.{CallEntered}
 use Rattle.outcomes.proofs.Ways.{refused, out_of, became_post}
@@ -71,7 +71,7 @@ module _ {image : List ℕ} {h : Header} {n : ℕ} (is : IsKind 16 image h n) {r
   counted : (bytes : List ℕ) → length (drop from (store_of run words bytes).pending) ≡ count
   counted bytes = length-drop from (store_of run words bytes).pending ∙ ap (λ (m : ℕ). m - from) (length-pending run words bytes) ∙ sym counts
 
-  pub wrong_number : (count ≡ function.count → ⊥) → CallEntered image h n from run words run words (Out (Refused ArgumentCount n))
+  pub wrong_number : (count ≡ function.count → ⊥) → CallEntered image h n from run words run words (Break (Refused ArgumentCount n))
   unfolding kind_of kinds
   wrong_number differs =
       λ d bytes.
@@ -85,7 +85,7 @@ module _ {image : List ℕ} {h : Header} {n : ℕ} (is : IsKind 16 image h n) {r
     same : (bytes : List ℕ) → length (drop from (store_of run words bytes).pending) ≡ (function_at image (node_at image h n).tag).count
     same bytes = counted bytes ∙ right ∙ ap (λ (f : Function). f.count) names
 
-    pub not_bound : r ≡ false → CallEntered image h n from run words run' words' (Out (Refused Bindings n))
+    pub not_bound : r ≡ false → CallEntered image h n from run words run' words' (Break (Refused Bindings n))
     unfolding kind_of kinds
     not_bound fails =
         λ d bytes.
@@ -97,7 +97,7 @@ module _ {image : List ℕ} {h : Header} {n : ℕ} (is : IsKind 16 image h n) {r
         t.kept.fits
         t.kept.room)
 
-    pub body_begun : r ≡ true → CallEntered image h n from run words run' words' On
+    pub body_begun : r ≡ true → CallEntered image h n from run words run' words' (Continue tt)
     unfolding kind_of kinds store_of
     body_begun holds =
         λ d bytes.

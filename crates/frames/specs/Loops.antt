@@ -1,5 +1,5 @@
 -- What a condition tells, and what a pass through a loop's body leaves to do, at any depth.
-use Rattle.std.specs.Prelude.{ℕ, Bool, true, false, List, [], ◌∷◌}
+use Rattle.std.specs.Prelude.{ℕ, Bool, List, [], ◌∷◌}
 use Rattle.std.proofs.Math.Option.{Option, some, none}
 use Rattle.packed.specs.declared.layout.Header.{Header}
 use Rattle.rules.specs.declared.Value.{Value}
@@ -9,26 +9,24 @@ use Rattle.rules.specs.Machine.{turn, brk, body_of}
 use Rattle.stores.specs.Stores.{Fits}
 use Rattle.outcomes.specs.declared.Outcome.{Outcome}
 use Rattle.outcomes.specs.declared.Outcome.TheVariants.{Done, Broke, Refused, Spent}
-use Rattle.outcomes.specs.declared.Progress.{Progress}
-use Rattle.frames.specs.declared.Told.{Told}
-use Rattle.frames.specs.declared.Told.TheVariants.{Holds, Fails, Out}
+use Rattle.std.specs.declared.ops.ControlFlow.{ControlFlow}
+use Rattle.std.specs.declared.ops.ControlFlow.TheVariants.{Continue, Break}
 use Rattle.outcomes.specs.Post.{Post, AfterRunOn}
 
 -- "A condition that isn't bool is 15", at the condition
-abbrev pub told_by : ℕ → Option Bool → Told
-told_by c none = Out (Refused NotBool c)
-told_by c (some true) = Holds
-told_by c (some false) = Fails
+abbrev pub told_by : ℕ → Option Bool → ControlFlow Outcome Bool
+told_by c none = Break (Refused NotBool c)
+told_by c (some holds) = Continue holds
 
-abbrev pub told_of : ℕ → Outcome → Told
+abbrev pub told_of : ℕ → Outcome → ControlFlow Outcome Bool
 told_of c (Done v) = told_by c (as_bool v)
-told_of c (Broke b v) = Out (Broke b v)
-told_of c (Refused why place) = Out (Refused why place)
-told_of c (Spent place) = Out (Spent place)
+told_of c (Broke b v) = Break (Broke b v)
+told_of c (Refused why place) = Break (Refused why place)
+told_of c (Spent place) = Break (Spent place)
 
 abbrev pub BreakSeen : List ℕ → Header → ℕ → ℕ → Value → ℕ → ℕ → List ℕ → List ℕ → Outcome → Type 0
 BreakSeen image h n b v scope from run run' r =
     (d : ℕ) (words bytes : List ℕ) → Fits run words → Post image h (brk b v) (body_of n d scope from ∷ []) run words bytes run' words bytes r
 
-abbrev pub PassOver : List ℕ → Header → ℕ → ℕ → ℕ → Outcome → List ℕ → List ℕ → Progress → Type 0
+abbrev pub PassOver : List ℕ → Header → ℕ → ℕ → ℕ → Outcome → List ℕ → List ℕ → ControlFlow Outcome (Unit {0}) → Type 0
 PassOver image h n scope from one run run' r = (d : ℕ) → AfterRunOn image h (body_of n d scope from ∷ []) (turn n d scope) one run run' r

@@ -8,9 +8,10 @@ ghost use Rattle.outcomes.specs.Post.{EveryAfterRun};
 ghost use Rattle.frames.specs.Calls.{CallEntered};
 
 use bindings::{bind_arguments, end_call};
-use outcomes::{Outcome, Progress};
+use outcomes::Outcome;
 use packed::layout::{Function, Header, function_at, node_at};
 use rules::Refusal;
+use std::ops::ControlFlow;
 use stores::pending::pending_since;
 
 // The function that node n calls.
@@ -30,18 +31,18 @@ pub fn enter_call(
     run: &mut [u64; 16],
     n: u16,
     from: u64,
-) -> Progress
+) -> ControlFlow<Outcome>
     requires { IsKind 16 image.now h n × Fits run.old words.old }
     ensures { CallEntered image.now h n from run.old words.old run.new words.new result }
 {
     let function = function_of(image, h, n);
     if pending_since(run, from) != function.count as u64 {
-        return Progress::Out(Outcome::Refused(Refusal::ArgumentCount, n));
+        return ControlFlow::Break(Outcome::Refused(Refusal::ArgumentCount, n));
     }
     if bind_arguments(words, run, function.first, from) {
-        return Progress::On;
+        return ControlFlow::Continue(());
     }
-    Progress::Out(Outcome::Refused(Refusal::Bindings, n))
+    ControlFlow::Break(Outcome::Refused(Refusal::Bindings, n))
 }
 
 // After the body, with the caller's scope, floor and pending: "A break that reaches a body .. is 13".

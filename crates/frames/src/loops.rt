@@ -3,23 +3,23 @@ ghost use Rattle.std.specs.Prelude.{◌≡◌};
 ghost use Rattle.outcomes.specs.Outcomes.{IsNode, IsBreak};
 ghost use Rattle.frames.specs.Loops.{told_of, BreakSeen, PassOver};
 
-use crate::Told;
 use bindings::break_out;
-use outcomes::{Outcome, Progress};
+use outcomes::Outcome;
 use packed::layout::{Header, node_at};
 use rules::{Refusal, Value};
+use std::ops::ControlFlow;
 
 // What the condition at node c told: "A condition that isn't bool is 15".
-pub fn told(c: u16, one: Outcome) -> Told
+pub fn told(c: u16, one: Outcome) -> ControlFlow<Outcome, bool>
     ensures { result ≡ told_of c one }
 {
     let Outcome::Done(v) = one else {
-        return Told::Out(one);
+        return ControlFlow::Break(one);
     };
     let Value::Bool(holds) = v else {
-        return Told::Out(Outcome::Refused(Refusal::NotBool, c));
+        return ControlFlow::Break(Outcome::Refused(Refusal::NotBool, c));
     };
-    if holds { Told::Holds } else { Told::Fails }
+    ControlFlow::Continue(holds)
 }
 
 // Break b reaches the body of loop n: "ends the loop if the labels are equal"; "A value from a break is the loop's, but 14 if there is a condition".
@@ -57,13 +57,13 @@ pub fn after_pass(
     scope: u64,
     from: u64,
     one: Outcome,
-) -> Progress
+) -> ControlFlow<Outcome>
     requires { IsNode image.now h n × IsBreak image.now h one }
     ensures { PassOver image.now h n scope from one run.old run.new result }
 {
     match one {
-        Outcome::Done(_) => Progress::On,
-        Outcome::Broke(b, v) => Progress::Out(caught(image, h, run, n, b, v, scope, from)),
-        _ => Progress::Out(one),
+        Outcome::Done(_) => ControlFlow::Continue(()),
+        Outcome::Broke(b, v) => ControlFlow::Break(caught(image, h, run, n, b, v, scope, from)),
+        _ => ControlFlow::Break(one),
     }
 }

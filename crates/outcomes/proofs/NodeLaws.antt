@@ -14,14 +14,11 @@ use Rattle.packed.specs.Layout.{node_at, size_of}
 use Rattle.kinds.specs.Kinds.{tag_role, row_of, table}
 use Rattle.records.specs.Records.{fits}
 use Rattle.image.proofs.Loads.{node_loaded}
-use Rattle.rules.specs.declared.Value.{Value}
 use Rattle.building.specs.Making.{IsKind}
 use Rattle.targets.specs.Reading.{IsTarget}
 use Rattle.building.proofs.ChainLaws.{size_right}
 use Rattle.targets.proofs.TargetNodes.{target_of}
-use Rattle.outcomes.specs.declared.Outcome.{Outcome}
-use Rattle.outcomes.specs.declared.Outcome.TheVariants.{Broke}
-use Rattle.outcomes.specs.Outcomes.{IsNode, IsBreak}
+use Rattle.outcomes.specs.Outcomes.{IsNode}
 
 module _ {image : List ℕ} {h : Header} {n : ℕ} (is : IsNode image h n) where
   -- what reading it asks
@@ -64,7 +61,3 @@ module _ {image : List ℕ} {h : Header} {n : ℕ} where
       let role : tag_role (node_at image h n).kind (node_at image h n).op ≡ Function = ap (λ (k : ℕ). tag_role k (node_at image h n).op) is.same in
       ltb-true (node_at image h n).tag h.functions
       (subst (λ (r : Role). fits image h r (node_at image h n).tag ≡ true) role (node_loaded image h is.loaded n is.first is.last).tag)
-
--- the node of an outcome that is a break
-pub break_there : {image : List ℕ} {h : Header} (one : Outcome) {b : ℕ} {v : Value} → one ≡ Broke b v → IsBreak image h one → IsNode image h b
-break_there {image} {h} one e is = (subst (IsBreak image h) e is).is

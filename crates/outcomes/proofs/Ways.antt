@@ -6,8 +6,6 @@ use mathlib.Core.Option.{Option}
 use mathlib.Core.List.{List, [], ◌∷◌, ◌++◌}
 use lib.ListN.{length}
 use Rattle.fields.proofs.Tests.{and_both}
-use types.Run.{OneOf, miss}
-use denote.Enum.Declared.{tag_of}
 use Rattle.packed.specs.declared.layout.Header.{Header}
 use Rattle.rules.specs.declared.Value.{Value}
 use Rattle.rules.specs.declared.Refusal.{Refusal}
@@ -24,17 +22,16 @@ use Rattle.stores.specs.Stores.{store_of, takes_of, Fits, Became, Makes, Tried}
 use Rattle.targets.specs.declared.Written.{Written}
 use Rattle.targets.specs.declared.Written.TheVariants.{Done as WDone, Refused as WRefused}
 use Rattle.targets.specs.Reading.{Writes}
-use Rattle.outcomes.specs.contracts.Outcome.{the_type}
 use Rattle.outcomes.specs.declared.Outcome.{Outcome}
 use Rattle.outcomes.specs.declared.Outcome.TheVariants.{Done, Broke, Refused, Spent}
-use Rattle.outcomes.specs.declared.Progress.{Progress}
-use Rattle.outcomes.specs.declared.Progress.TheVariants.{On, Out as Outward}
+use Rattle.std.specs.declared.ops.ControlFlow.{ControlFlow}
+use Rattle.std.specs.declared.ops.ControlFlow.TheVariants.{Continue, Break}
 use Rattle.outcomes.specs.Post.{Came, Ways, Post, WaysOn, Advance, Same, After, AfterOn}
 use Rattle.outcomes.specs.Outcomes.{got_of, written_of, bound_of}
 
 -- what is no value
 abbrev pub NoValue : Outcome → Type 0
-NoValue r = OneOf (1 ∷ 2 ∷ 3 ∷ []) (tag_of the_type r)
+NoValue r = (v : Value) → r ≡ Done v → ⊥
 
 -- frames that a break leaves with the store as it is
 abbrev pub all_pass : List Frame → Bool
@@ -60,15 +57,15 @@ module _ {image : List ℕ} {h : Header} where
     ways_then l σ (Refused why place) p q = record { path = λ K. p.path K then q.path K }
     ways_then l σ (Spent place) p q = record { at = q.at; path = λ K. p.path K then q.path K; takes = q.takes; place = q.place; none = q.none }
 
-    ways_on_then : {t₁ : Ctl} {fs₁ : List Frame} {l₁ : ℕ} {σ₁ : Store} (t : Ctl) (fs : List Frame) (l : ℕ) (σ : Store) (r : Progress)
+    ways_on_then : {t₁ : Ctl} {fs₁ : List Frame} {l₁ : ℕ} {σ₁ : Store} (t : Ctl) (fs : List Frame) (l : ℕ) (σ : Store) (r : ControlFlow Outcome (Unit {0}))
         → Came image h t₀ fs₀ l₀ σ₀ t₁ fs₁ l₁ σ₁ → WaysOn image h t₁ fs₁ t fs l₁ σ₁ l σ r → WaysOn image h t₀ fs₀ t fs l₀ σ₀ l σ r
-    ways_on_then t fs l σ On p q = came_then p q
-    ways_on_then t fs l σ (Outward r) p q = ways_then l σ r p q
+    ways_on_then t fs l σ (Continue u) p q = came_then p q
+    ways_on_then t fs l σ (Break r) p q = ways_then l σ r p q
 
     -- an expression's outcome over frames that wait for a value: what is no value passes them
     ways_past : {t₁ : Ctl} {l₁ : ℕ} {σ₁ : Store} (fs : List Frame) (l : ℕ) (σ : Store) (one : Outcome) → all_pass fs ≡ true → NoValue one
         → Came image h t₀ fs₀ l₀ σ₀ t₁ fs l₁ σ₁ → Ways image h t₁ [] l₁ σ₁ l σ one → Ways image h t₀ fs₀ l₀ σ₀ l σ one
-    ways_past fs l σ (Done v) pass none p q = absurd (miss (1 ∷ 2 ∷ 3 ∷ []) 0 tt none)
+    ways_past fs l σ (Done v) pass none p q = absurd (none v refl)
     ways_past fs l σ (Broke b v) pass none p q = (record { path = λ K. p.path K then q.0.path (fs ++ K) then breaks_pass fs pass K }, q.1, q.2)
     ways_past fs l σ (Refused why place) pass none p q = record { path = λ K. p.path K then q.path (fs ++ K) }
     ways_past fs l σ (Spent place) pass none p q =
@@ -89,7 +86,7 @@ module _ {image : List ℕ} {h : Header} {t₀ : Ctl} {fs₀ : List Frame} {run 
   post_then {r = r} p same q =
       record { ways = ways_then (takes_of run₂) (store_of run₂ words₂ bytes₂) r p q.ways; fits = q.fits; room = q.room ∙ same }
 
-  pub advance_then : {t₁ t : Ctl} {fs₁ fs : List Frame} {r : Progress}
+  pub advance_then : {t₁ t : Ctl} {fs₁ fs : List Frame} {r : ControlFlow Outcome (Unit {0})}
       → Came image h t₀ fs₀ (takes_of run) (store_of run words bytes) t₁ fs₁ (takes_of run₁) (store_of run₁ words₁ bytes₁) → length bytes₁ ≡ length bytes
       → Advance image h t₁ fs₁ t fs run₁ words₁ bytes₁ run₂ words₂ bytes₂ r → Advance image h t₀ fs₀ t fs run words bytes run₂ words₂ bytes₂ r
   advance_then {t = t} {fs = fs} {r = r} p same q =
@@ -116,10 +113,10 @@ module _ {image : List ℕ} {h : Header} {t₀ : Ctl} {fs₀ : List Frame} {run�
 
 module _ {image : List ℕ} {h : Header} {t₀ : Ctl} {fs₀ : List Frame} {run words bytes run₁ words₁ bytes₁ : List ℕ} {r : Outcome} where
   pub out_of : (t : Ctl) (fs : List Frame) → Post image h t₀ fs₀ run words bytes run₁ words₁ bytes₁ r
-      → Advance image h t₀ fs₀ t fs run words bytes run₁ words₁ bytes₁ (Outward r)
+      → Advance image h t₀ fs₀ t fs run words bytes run₁ words₁ bytes₁ (Break r)
   out_of t fs q = record { ways = q.ways; fits = q.fits; room = q.room }
 
-  pub of_out : {t : Ctl} {fs : List Frame} → Advance image h t₀ fs₀ t fs run words bytes run₁ words₁ bytes₁ (Outward r)
+  pub of_out : {t : Ctl} {fs : List Frame} → Advance image h t₀ fs₀ t fs run words bytes run₁ words₁ bytes₁ (Break r)
       → Post image h t₀ fs₀ run words bytes run₁ words₁ bytes₁ r
   of_out q = record { ways = q.ways; fits = q.fits; room = q.room }
 
@@ -127,11 +124,11 @@ module _ {image : List ℕ} {h : Header} {t₀ : Ctl} {fs₀ : List Frame} {run 
 
 module _ {image : List ℕ} {h : Header} {fs : List Frame} {run words bytes run₁ words₁ bytes₁ : List ℕ} where
   pub after_out : (t : Ctl) (one : Outcome) {r : Outcome} → After image h fs one run words bytes run₁ words₁ bytes₁ r
-      → AfterOn image h fs t one run words bytes run₁ words₁ bytes₁ (Outward r)
+      → AfterOn image h fs t one run words bytes run₁ words₁ bytes₁ (Break r)
   after_out t (Done v) a = record { ways = out_of t [] a.ways }
   after_out t (Broke b v) a = record { ways = λ first last. out_of t [] (a.ways first last) }
-  after_out t (Refused why place) a = record { ways = (ap Outward a.ways.0, a.ways.1) }
-  after_out t (Spent place) a = record { ways = (ap Outward a.ways.0, a.ways.1) }
+  after_out t (Refused why place) a = record { ways = (ap Break a.ways.0, a.ways.1) }
+  after_out t (Spent place) a = record { ways = (ap Break a.ways.0, a.ways.1) }
 
 module _ {image : List ℕ} {h : Header} {run words bytes : List ℕ} where
   same : Same image h run words bytes run words bytes
@@ -139,14 +136,14 @@ module _ {image : List ℕ} {h : Header} {run words bytes : List ℕ} where
 
   -- what is no value passes frames that wait for a value, with nothing done
   pub after_past : (fs : List Frame) (one : Outcome) → all_pass fs ≡ true → NoValue one → Fits run words → After image h fs one run words bytes run words bytes one
-  after_past fs (Done v) pass none fits = absurd (miss (1 ∷ 2 ∷ 3 ∷ []) 0 tt none)
+  after_past fs (Done v) pass none fits = absurd (none v refl)
   after_past fs (Broke b v) pass none fits =
       record { ways = λ first last. record { ways = (record { path = breaks_pass fs pass }, first, last); fits = fits; room = refl } }
   after_past fs (Refused why place) pass none fits = record { ways = (refl, same) }
   after_past fs (Spent place) pass none fits = record { ways = (refl, same) }
 
 module _ {image : List ℕ} {h : Header} {t₀ : Ctl} {fs₀ : List Frame} {run words bytes run₁ words₁ bytes₁ run₂ words₂ bytes₂ run₃ words₃ bytes₃ : List ℕ} where
-  pub advance_after : {t₁ t : Ctl} {fs : List Frame} (one : Outcome) {r : Progress}
+  pub advance_after : {t₁ t : Ctl} {fs : List Frame} (one : Outcome) {r : ControlFlow Outcome (Unit {0})}
       → Came image h t₀ fs₀ (takes_of run) (store_of run words bytes) t₁ fs (takes_of run₁) (store_of run₁ words₁ bytes₁) → length bytes₁ ≡ length bytes
       → Post image h t₁ [] run₁ words₁ bytes₁ run₂ words₂ bytes₂ one → AfterOn image h fs t one run₂ words₂ bytes₂ run₃ words₃ bytes₃ r
       → Advance image h t₀ fs₀ t [] run words bytes run₃ words₃ bytes₃ r
@@ -220,12 +217,12 @@ module _ {image : List ℕ} {h : Header} {t₀ : Ctl} {fs₀ : List Frame} {run 
 
 -- ---- what is neither a value nor a break stays as it is, whatever frames wait
 
-abbrev pub Final : Outcome → Type 0
-Final r = OneOf (2 ∷ 3 ∷ []) (tag_of the_type r)
+abbrev pub NoBreak : Outcome → Type 0
+NoBreak r = (b : ℕ) (v : Value) → r ≡ Broke b v → ⊥
 
 module _ {image : List ℕ} {h : Header} {run words bytes : List ℕ} where
-  pub after_final : (fs : List Frame) (one : Outcome) → Final one → After image h fs one run words bytes run words bytes one
-  after_final fs (Done v) final = absurd (miss (2 ∷ 3 ∷ []) 0 tt final)
-  after_final fs (Broke b v) final = absurd (miss (2 ∷ 3 ∷ []) 1 tt final)
-  after_final fs (Refused why place) final = record { ways = (refl, same) }
-  after_final fs (Spent place) final = record { ways = (refl, same) }
+  pub after_final : (fs : List Frame) (one : Outcome) → NoValue one → NoBreak one → After image h fs one run words bytes run words bytes one
+  after_final fs (Done v) none unbroken = absurd (none v refl)
+  after_final fs (Broke b v) none unbroken = absurd (unbroken b v refl)
+  after_final fs (Refused why place) none unbroken = record { ways = (refl, same) }
+  after_final fs (Spent place) none unbroken = record { ways = (refl, same) }

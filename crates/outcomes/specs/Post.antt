@@ -10,8 +10,8 @@ use Rattle.rules.specs.Go.{Go}
 use Rattle.stores.specs.Stores.{store_of, takes_of, Fits}
 use Rattle.outcomes.specs.declared.Outcome.{Outcome}
 use Rattle.outcomes.specs.declared.Outcome.TheVariants.{Done, Broke, Refused, Spent}
-use Rattle.outcomes.specs.declared.Progress.{Progress}
-use Rattle.outcomes.specs.declared.Progress.TheVariants.{On, Out}
+use Rattle.std.specs.declared.ops.ControlFlow.{ControlFlow}
+use Rattle.std.specs.declared.ops.ControlFlow.TheVariants.{Continue, Break}
 
 module _ (image : List ℕ) (h : Header) where
   -- a node of an image that loads, and stores that fit
@@ -51,11 +51,11 @@ module _ (image : List ℕ) (h : Header) where
     pub room : length bytes' ≡ length bytes
 
   -- on to the control t with frames fs of its own, or out
-  abbrev pub WaysOn : Ctl → List Frame → Ctl → List Frame → ℕ → Store → ℕ → Store → Progress → Type 0
-  WaysOn t₀ fs₀ t fs l₀ σ₀ l σ On = Came t₀ fs₀ l₀ σ₀ t fs l σ
-  WaysOn t₀ fs₀ t fs l₀ σ₀ l σ (Out r) = Ways t₀ fs₀ l₀ σ₀ l σ r
+  abbrev pub WaysOn : Ctl → List Frame → Ctl → List Frame → ℕ → Store → ℕ → Store → ControlFlow Outcome (Unit {0}) → Type 0
+  WaysOn t₀ fs₀ t fs l₀ σ₀ l σ (Continue u) = Came t₀ fs₀ l₀ σ₀ t fs l σ
+  WaysOn t₀ fs₀ t fs l₀ σ₀ l σ (Break r) = Ways t₀ fs₀ l₀ σ₀ l σ r
 
-  pub record Advance (t₀ : Ctl) (fs₀ : List Frame) (t : Ctl) (fs : List Frame) (run words bytes run' words' bytes' : List ℕ) (r : Progress) : Type 0 where
+  pub record Advance (t₀ : Ctl) (fs₀ : List Frame) (t : Ctl) (fs : List Frame) (run words bytes run' words' bytes' : List ℕ) (r : ControlFlow Outcome (Unit {0})) : Type 0 where
     pub ways : WaysOn t₀ fs₀ t fs (takes_of run) (store_of run words bytes) (takes_of run') (store_of run' words' bytes') r
     pub fits : Fits run' words'
     pub room : length bytes' ≡ length bytes
@@ -76,18 +76,18 @@ module _ (image : List ℕ) (h : Header) where
   pub record After (fs : List Frame) (one : Outcome) (run words bytes run' words' bytes' : List ℕ) (r : Outcome) : Type 0 where
     pub ways : AfterWays fs run words bytes run' words' bytes' one r
 
-  abbrev pub AfterWaysOn : List Frame → Ctl → List ℕ → List ℕ → List ℕ → List ℕ → List ℕ → List ℕ → Outcome → Progress → Type 0
+  abbrev pub AfterWaysOn : List Frame → Ctl → List ℕ → List ℕ → List ℕ → List ℕ → List ℕ → List ℕ → Outcome → ControlFlow Outcome (Unit {0}) → Type 0
   AfterWaysOn fs t run words bytes run' words' bytes' (Done v) r = Advance (ret v) fs t [] run words bytes run' words' bytes' r
   AfterWaysOn fs t run words bytes run' words' bytes' (Broke b v) r = 1 ≤ b → b ≤ h.nodes → Advance (brk b v) fs t [] run words bytes run' words' bytes' r
-  AfterWaysOn fs t run words bytes run' words' bytes' (Refused why place) r = (r ≡ Out (Refused why place)) × Same run words bytes run' words' bytes'
-  AfterWaysOn fs t run words bytes run' words' bytes' (Spent place) r = (r ≡ Out (Spent place)) × Same run words bytes run' words' bytes'
+  AfterWaysOn fs t run words bytes run' words' bytes' (Refused why place) r = (r ≡ Break (Refused why place)) × Same run words bytes run' words' bytes'
+  AfterWaysOn fs t run words bytes run' words' bytes' (Spent place) r = (r ≡ Break (Spent place)) × Same run words bytes run' words' bytes'
 
-  pub record AfterOn (fs : List Frame) (t : Ctl) (one : Outcome) (run words bytes run' words' bytes' : List ℕ) (r : Progress) : Type 0 where
+  pub record AfterOn (fs : List Frame) (t : Ctl) (one : Outcome) (run words bytes run' words' bytes' : List ℕ) (r : ControlFlow Outcome (Unit {0})) : Type 0 where
     pub ways : AfterWaysOn fs t run words bytes run' words' bytes' one r
 
   -- ---- of a function that has not all the stores, for whatever stands in the others
 
-  abbrev pub AdvanceRun : Ctl → Ctl → List ℕ → List ℕ → Progress → Type 0
+  abbrev pub AdvanceRun : Ctl → Ctl → List ℕ → List ℕ → ControlFlow Outcome (Unit {0}) → Type 0
   AdvanceRun t₀ t run run' r = (words bytes : List ℕ) → Fits run words → Advance t₀ [] t [] run words bytes run' words bytes r
 
   abbrev pub AfterRun : List Frame → Outcome → List ℕ → List ℕ → Outcome → Type 0
@@ -99,10 +99,10 @@ module _ (image : List ℕ) (h : Header) where
   abbrev pub AfterText : List Frame → Outcome → List ℕ → List ℕ → List ℕ → List ℕ → Outcome → Type 0
   AfterText fs one run bytes run' bytes' r = (words : List ℕ) → Fits run words → After fs one run words bytes run' words bytes' r
 
-  abbrev pub AfterRunOn : List Frame → Ctl → Outcome → List ℕ → List ℕ → Progress → Type 0
+  abbrev pub AfterRunOn : List Frame → Ctl → Outcome → List ℕ → List ℕ → ControlFlow Outcome (Unit {0}) → Type 0
   AfterRunOn fs t one run run' r = (words bytes : List ℕ) → Fits run words → AfterOn fs t one run words bytes run' words bytes r
 
-  abbrev pub AfterWordsOn : List Frame → Ctl → Outcome → List ℕ → List ℕ → List ℕ → List ℕ → Progress → Type 0
+  abbrev pub AfterWordsOn : List Frame → Ctl → Outcome → List ℕ → List ℕ → List ℕ → List ℕ → ControlFlow Outcome (Unit {0}) → Type 0
   AfterWordsOn fs t one run words run' words' r = (bytes : List ℕ) → AfterOn fs t one run words bytes run' words' bytes r
 
   -- of one that only reads
@@ -117,5 +117,5 @@ abbrev pub EveryAfterRun : List Frame → Outcome → List ℕ → List ℕ → 
 EveryAfterRun fs one run run' r = (image : List ℕ) (h : Header) → AfterRun image h fs one run run' r
 
 -- a turn of a loop takes
-pub record Falls (r : Progress) (run run' : List ℕ) : Type 0 where
-  pub less : r ≡ On → takes_of run' < takes_of run
+pub record Falls (r : ControlFlow Outcome (Unit {0})) (run run' : List ℕ) : Type 0 where
+  pub less : r ≡ Continue tt → takes_of run' < takes_of run

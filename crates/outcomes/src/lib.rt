@@ -1,4 +1,5 @@
 // What the evaluation of an expression comes to, and what an evaluator promises of it (`Post`, in specs/).
+// Part of an expression answers a `ControlFlow<Outcome>`: it goes on, or breaks off with the outcome of the whole expression.
 #![tactic(auto)]
 
 use rules::{Refusal, Value};
@@ -10,11 +11,4 @@ pub enum Outcome {
     Broke(u16, Value),
     Refused(Refusal, u16),
     Spent(u16),
-}
-
-// Part of an expression is done and it goes on; or it is out, and the outcome is the whole expression's.
-#[derive(Clone, Copy)]
-pub enum Progress {
-    On,
-    Out(Outcome),
 }

@@ -1,0 +1,9 @@
+-- A pass that is done, and a break that reaches the loop.
+use Rattle.frames.proofs.LoopLaws.{pass_done, pass_broken}
+use Rattle.frames.proofs.loops.after_pass.Goals as goal
+
+pub returns-in-Done : goal.returns-in-Done
+returns-in-Done c = pass_done c.args.n c.args.scope c.args.from c.args.one c.in-Done.is
+
+pub returns-in-Broke : goal.returns-in-Broke
+returns-in-Broke c = pass_broken c.args.n c.args.scope c.args.from c.args.one c.in-Broke.is c.caught.ensures

@@ -1,0 +1,12 @@
+-- A value leaves the scope, and what is none passes.
+use Rattle.std.proofs.Common.{refl}
+use Rattle.rules.proofs.Moves.{scope_closed}
+use Rattle.outcomes.proofs.Ways.{after_past}
+use Rattle.frames.proofs.CallLaws.{value_left}
+use Rattle.frames.proofs.scopes.leave_scope.Goals as goal
+
+pub returns-in-Done : goal.returns-in-Done
+returns-in-Done c = value_left c.args.one c.args.one c.in-Done.is c.in-Done.is (λ image h l K σ. scope_closed) c.close.ensures
+
+pub returns-in_default : goal.returns-in_default
+returns-in_default c = λ image h words bytes room. after_past _ c.args.one refl c.in_default.not-Done room
