@@ -19,8 +19,8 @@ use Rattle.fields.proofs.Tests.{and_both}
 use Rattle.packed.specs.declared.layout.Header.{Header}
 use Rattle.packed.specs.Layout.{header_of, node_at, function_at, literal_at, part_at}
 use Rattle.kinds.specs.Kinds.{row_of, table, tag_role}
-use Rattle.image.specs.declared.Loaded.{Loaded}
-use Rattle.image.specs.declared.Loaded.TheVariants.{Image, BadLength, BadHeader, BadRecord, BadTree}
+use Rattle.std.specs.Prelude.{Result, Ok, Err, is_ok}
+use Rattle.image.specs.declared.LoadError.{LoadError}
 use Rattle.records.specs.First.{first_from}
 use Rattle.records.specs.Records.{function_good, fits, node_good, part_good, part_of, payload_good, literal_good, record_good, record_offset, bad_record}
 use Rattle.tree.specs.Tree.{times, names_of, bodies, node_names, namings, chain_by, goes, parts, names_well, is_named_well, node_right, lowest_fault}
@@ -178,25 +178,14 @@ says_ran e (came c n) = says_end e n c
 says_ran e (took c n) = says e 6 (takes_at c) n []
 says_ran e unknown = false
 
-is_image : Loaded → Bool
-is_image (Image h) = true
-is_image BadLength = false
-is_image BadHeader = false
-is_image (BadRecord place) = false
-is_image (BadTree n) = false
-
 right : Entry → Bool
-right e = is_image (load_of e.image) && says_ran e (run e)
+right e = is_ok (load_of e.image) && says_ran e (run e)
 
 -- ---- the test is what the entry says
 
-image_so : (image : List ℕ) (x : Loaded) → load_of image ≡ x → is_image x ≡ true → load_of image ≡ Image (header_of image)
-unfolding is_image
-image_so image (Image h) e t = e ∙ ap Image (header_right image h e).is
-image_so image BadLength e t = absurd (true≢false (sym t))
-image_so image BadHeader e t = absurd (true≢false (sym t))
-image_so image (BadRecord place) e t = absurd (true≢false (sym t))
-image_so image (BadTree n) e t = absurd (true≢false (sym t))
+loads_so : (image : List ℕ) (x : Result Header LoadError) → load_of image ≡ x → is_ok x ≡ true → load_of image ≡ Ok (header_of image)
+loads_so image (Ok h) e t = e ∙ ap Ok (header_right image h e).is
+loads_so image (Err why) e t = absurd (true≢false (sym t))
 
 record Said (e : Entry) (k p n : ℕ) (w : List ℕ) : Type 0 where
   number : k ≡ e.number
@@ -316,10 +305,10 @@ right_so e t =
     let image = e.image in
     let h = header_of image in
     let c = start image h in
-    let both = and_both (is_image (load_of image)) (says_ran e (run e)) t in
+    let both = and_both (is_ok (load_of image)) (says_ran e (run e)) t in
     record {
       header = h;
-      loads = image_so image (load_of image) refl both.0;
+      loads = loads_so image (load_of image) refl both.0;
       answers = λ out long.
           by_run e out long (run e)
           (sound image h c e.budget 200 0 c _ _ _ refl refl refl (record { transitions = 0; there = refl; takes = refl }) zero-le)
@@ -338,5 +327,5 @@ all_so [] t = no_more
 all_so (e ∷ es) t = let both = and_both (right e) (all_right es) t in also (right_so e both.0) (all_so es both.1)
 
 pub marked_right : All marked
-unfolding all_right right run ran is_end is_ret is_image says_ran says_end says_encoded says written_of marked header_of field_of bit_at row_of table tag_role literal_at part_at node_at function_at first_from function_good fits node_good part_good part_of payload_good literal_good record_good record_offset bad_record times names_of bodies node_names namings chain_by goes parts names_well is_named_well node_right lowest_fault judged load_of last_of declared text_of part_text entry_at item_at read_target target_place target_set target_assigned literal_of literal_value built_text binary_of entered entries template_text kinds kind_of chain worked completed returned broken next cost takes_at assign_of binary_int_of int_of bits_of inserted sorted_entries pieces written_by encoded packed utf8_of utf8_past char_len starts utf8_row utf8_table
+unfolding all_right right run ran is_end is_ret says_ran says_end says_encoded says written_of marked header_of field_of bit_at row_of table tag_role literal_at part_at node_at function_at first_from function_good fits node_good part_good part_of payload_good literal_good record_good record_offset bad_record times names_of bodies node_names namings chain_by goes parts names_well is_named_well node_right lowest_fault judged load_of last_of declared text_of part_text entry_at item_at read_target target_place target_set target_assigned literal_of literal_value built_text binary_of entered entries template_text kinds kind_of chain worked completed returned broken next cost takes_at assign_of binary_int_of int_of bits_of inserted sorted_entries pieces written_by encoded packed utf8_of utf8_past char_len starts utf8_row utf8_table
 marked_right = all_so marked refl

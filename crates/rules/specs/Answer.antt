@@ -1,6 +1,7 @@
 -- 01's numbers, and what each answer says.
 use Rattle.std.specs.Prelude.{ℕ}
 use Rattle.numbers.specs.Ints.{number_of as arith_number}
+use Rattle.image.specs.Load.{error_number, error_place}
 use Rattle.rules.specs.declared.Refusal.{Refusal}
 use Rattle.rules.specs.declared.Refusal.TheVariants.{Depth, Cells, TextBytes, Bindings, Pending, NotConst, BreakOutside, BreakWithValue, NotBool, Arithmetic, Operands, MissingName, MissingField, MissingIndex, ExpectedType, ArgumentCount, FloatInTemplate, Nesting, Room}
 use Rattle.rules.specs.declared.Answer.{Answer}
@@ -32,14 +33,14 @@ abbrev pub number_of : Answer → ℕ
 number_of (Value length steps) = 0
 number_of (Refused why place steps) = refusal_number why
 number_of (Spent place steps) = 6
-number_of (NotLoaded number place) = number
+number_of (NotLoaded error) = error_number error
 number_of StoreTooShort = 5
 
 abbrev pub place_of : Answer → ℕ
 place_of (Value length steps) = 0
 place_of (Refused why place steps) = place
 place_of (Spent place steps) = place
-place_of (NotLoaded number place) = place
+place_of (NotLoaded error) = error_place error
 place_of StoreTooShort = 0
 
 -- "Refusals 1 to 5 report 0 steps"
@@ -47,5 +48,5 @@ abbrev pub steps_of : Answer → ℕ
 steps_of (Value length steps) = steps
 steps_of (Refused why place steps) = steps
 steps_of (Spent place steps) = steps
-steps_of (NotLoaded number place) = 0
+steps_of (NotLoaded error) = 0
 steps_of StoreTooShort = 0

@@ -1,7 +1,6 @@
 -- 01's worked programs, those marked * among them, `2+3` with budget 3, and a loop that goes round: plain data, an entry for each.
-use Rattle.std.specs.Prelude.{ℕ, ◌≡◌, List, [], ◌∷◌, ◌++◌, length, drop}
+use Rattle.std.specs.Prelude.{Ok, ℕ, ◌≡◌, List, [], ◌∷◌, ◌++◌, length, drop}
 use Rattle.packed.specs.declared.layout.Header.{Header}
-use Rattle.image.specs.declared.Loaded.TheVariants.{Image}
 use Rattle.image.specs.Load.{load_of}
 use Rattle.rules.specs.declared.Answer.{Answer}
 use Rattle.rules.specs.Answer.{number_of, place_of, steps_of}
@@ -69,7 +68,7 @@ marked =
 -- what an entry says: the image loads, and into any output of 4,096 bytes the budget gives that answer and those bytes, then what stood there
 pub record Right (e : Entry) : Type 0 where
   pub header : Header
-  pub loads : load_of e.image ≡ Image header
+  pub loads : load_of e.image ≡ Ok header
   pub answers : (out : List ℕ) → length out ≡ 4096 → (answer : Answer) × (after : List ℕ)
       × Budgeted e.image header out (start e.image header) e.budget answer after
       × (number_of answer ≡ e.number) × (place_of answer ≡ e.place) × (steps_of answer ≡ e.steps)

@@ -4,6 +4,7 @@
 ghost use Rattle.std.specs.Prelude.{◌≡◌};
 ghost use Rattle.rules.specs.Answer.{refusal_number, number_of, place_of, steps_of};
 
+use image::LoadError;
 use numbers::ArithRefusal;
 
 // A value while a constant is worked out. Text is a place and a length in the image's text and, after it, the text that was built in this
@@ -105,7 +106,7 @@ pub enum Answer {
     // 6: the node being entered, and the steps taken
     Spent(usize, u64),
     // 1 to 4, and the place
-    NotLoaded(u8, usize),
+    NotLoaded(LoadError),
     // 5
     StoreTooShort,
 }
@@ -119,7 +120,7 @@ impl Answer {
             Answer::Value(_, _) => 0,
             Answer::Refused(why, _, _) => why.number(),
             Answer::Spent(_, _) => 6,
-            Answer::NotLoaded(number, _) => number,
+            Answer::NotLoaded(error) => error.number(),
             Answer::StoreTooShort => 5,
         }
     }
@@ -129,7 +130,7 @@ impl Answer {
     {
         match self {
             Answer::Refused(_, place, _) | Answer::Spent(place, _) => place,
-            Answer::NotLoaded(_, place) => place,
+            Answer::NotLoaded(error) => error.place(),
             Answer::Value(_, _) | Answer::StoreTooShort => 0,
         }
     }
@@ -140,7 +141,7 @@ impl Answer {
         match self {
             Answer::Value(_, steps) | Answer::Refused(_, _, steps) | Answer::Spent(_, steps) =>
                 steps,
-            Answer::NotLoaded(_, _) | Answer::StoreTooShort => 0,
+            Answer::NotLoaded(_) | Answer::StoreTooShort => 0,
         }
     }
 }

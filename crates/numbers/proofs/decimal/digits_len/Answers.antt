@@ -1,5 +1,5 @@
 -- Each step of the loop drops a digit, of which there are no more than 20.
-use Rattle.std.proofs.Common.{◌≡◌, arith}
+use Rattle.std.proofs.Common.{arith}
 use Rattle.numbers.proofs.DecimalLaws.{length-one, length_more, length_some, length-below}
 use Rattle.numbers.proofs.decimal.digits_len.Goals as goal
 

@@ -1,5 +1,5 @@
 -- The digits of the magnitude before the end, and the sign, where there is one, before them.
-use Rattle.std.proofs.Common.{◌≡◌, ◌+◌, ◌≤◌, length, arith}
+use Rattle.std.proofs.Common.{arith}
 use mir.Facts.{to_z-of_z}
 use Rattle.numbers.specs.Decimal.{decimal_of}
 use Rattle.numbers.proofs.DecimalLaws.{put_neg, put_pos, room, no_room}

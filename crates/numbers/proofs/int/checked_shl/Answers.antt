@@ -1,5 +1,5 @@
 -- `shift_operand` gives the operand or the refusal, and the word is shifted.
-use Rattle.std.proofs.Common.{◌^◌, pos, ◌*ℤ◌, nat_abs, sym, ◌∙◌}
+use Rattle.std.proofs.Common.{◌^◌, pos, ◌*ℤ◌, nat_abs, sym}
 use mir.Facts.{to_z-of_z}
 use Rattle.numbers.specs.Words.{word_of, int_of}
 use Rattle.numbers.proofs.IntLaws.{Shift, shift}
