@@ -1,12 +1,13 @@
 -- The laws of `field_of`, each once for every width. Assumes nothing.
-use mathlib.Core.Path.{◌≡◌, refl, sym, ap, ap₂, ◌∙◌}
+use mathlib.Core.Path.{◌≡◌, refl, sym, ap, ap₂, ◌∙◌, subst}
 use mathlib.Core.List.{List}
 use Prim.Native.Nat.{ℕ, zero, suc, ◌+◌, ◌-◌, ◌*◌, ◌/◌, ◌%◌, ◌^◌, ◌≤◌, ◌<◌}
-use native.Mathlib.Nat.{mod-lt, add-zero, add-suc, pow-suc, add_assoc, mod-eq_of_lt, zero-lt-suc, le_trans}
+use native.Mathlib.Nat.{mod-lt, add-zero, add-suc, pow-suc, add_assoc, mod-eq_of_lt, zero-lt-suc, le_trans, lt_of_lt_of_le}
 use native.Mathlib.Omega.{arith}
 use native.Mathlib.Numerals.{add-one}
 use lib.ListN.{length, get_or}
-use lib.Pow.{high, low, shr-shr, pow-add, mod-pow-add}
+use lib.Bits.{bit_or, or_shifted}
+use lib.Pow.{high, low, shr-shr, shl_lt, pow-add, mod-pow-add}
 use borrow.Author.Tests.{leb-true}
 use lib.Dec.{leb}
 use mathlib.Core.Bool.{true}
@@ -74,29 +75,11 @@ in_byte l k r (suc t) s e =
 pub field_byte : (l : List ℕ) (k : ℕ) → get_or l k 0 < 256 → field_of l (8 * k) 8 ≡ get_or l k 0
 field_byte l k h = ap (λ (i : ℕ). field_of l i 8) (sym (add-zero (8 * k))) ∙ in_byte l k 0 8 0 refl ∙ (omega arith)
 
--- n bytes from byte k, the most significant first
-unfoldable pub be : List ℕ → ℕ → ℕ → ℕ
-be l k zero = 0
-be l k (suc n) = be l k n * 256 + get_or l (k + n) 0
-
-pub field_be : (l : List ℕ) → ((i : ℕ) → get_or l i 0 < 256) → (k n : ℕ) → field_of l (8 * k) (8 * n) ≡ be l k n
-unfolding be field_of
-field_be l h k zero = refl
-field_be l h k (suc n) =
-    let e : 8 * suc n ≡ 8 * n + 8 = omega arith in
-    let f : 8 * k + 8 * n ≡ 8 * (k + n) = omega arith in
-    ap (field_of l (8 * k)) e ∙ field_split l (8 * k) (8 * n) 8
-    ∙ ap₂ (λ (a b : ℕ). a * 256 + b) (field_be l h k n) (ap (λ (i : ℕ). field_of l i 8) f ∙ field_byte l (k + n) (h (k + n)))
-
 -- two fields that stand one after the other, the first of m bytes, make one
 pub join : (l : List ℕ) (k m b x y : ℕ) → x ≡ field_of l (8 * k) (8 * m) → y ≡ field_of l (8 * (k + m)) b → x * 2 ^ b + y ≡ field_of l (8 * k) (8 * m + b)
 join l k m b x y p q =
     let e : 8 * (k + m) ≡ 8 * k + 8 * m = omega arith in
     ap₂ (λ (u v : ℕ). u * 2 ^ b + v) p (q ∙ ap (λ (i : ℕ). field_of l i b) e) ∙ sym (field_split l (8 * k) (8 * m) b)
-
--- 1 shifted left
-pub one_up : (k : ℕ) → k < 64 → (1 * 2 ^ k) % 2 ^ 64 ≡ 2 ^ k
-one_up k h = ap (λ (n : ℕ). n % 2 ^ 64) (native.Mathlib.Nat.one-mul (2 ^ k)) ∙ mod-eq_of_lt (lib.Pow.pow-lt h)
 
 -- t bits of byte k more: r bits of the byte stand before them and s after them
 pub field_more : (l : List ℕ) (bit done k r t s acc : ℕ) → acc ≡ field_of l bit done → bit + done ≡ 8 * k + r → r + t + s ≡ 8
@@ -115,18 +98,30 @@ pub cut_field : (size : ℕ) (l : List ℕ) (i w before width after r : ℕ) →
 cut_field size l i w before width after r p e q =
     q ∙ ap (λ (n : ℕ). n / 2 ^ after % 2 ^ width) (p ∙ ap (field_of l i) (sym e)) ∙ field_of_lem l i before width after
 
--- eight bytes, each in its place
-pub word_be : (l : List ℕ) → ((i : ℕ) → get_or l i 0 < 256) → (k a b c d e f g h : ℕ)
-    → a ≡ get_or l k 0 → b ≡ get_or l (k + 1) 0 → c ≡ get_or l (k + 2) 0 → d ≡ get_or l (k + 3) 0
-    → e ≡ get_or l (k + 4) 0 → f ≡ get_or l (k + 5) 0 → g ≡ get_or l (k + 6) 0 → h ≡ get_or l (k + 7) 0
-    → a * 2 ^ 56 + b * 2 ^ 48 + c * 2 ^ 40 + d * 2 ^ 32 + e * 2 ^ 24 + f * 2 ^ 16 + g * 2 ^ 8 + h ≡ field_of l (8 * k) 64
-unfolding be
-word_be l small k a b c d e f g h pa pb pc pd pe pf pg ph =
-    omega (arith, field_be l small k 8, ap (λ (i : ℕ). get_or l i 0) (add-zero k))
-
 -- what the test tells of a field within the bytes
 pub within_so : (l : List ℕ) (bit width : ℕ) → is_within l bit width ≡ true → (width ≤ 64) × (bit + width ≤ 8 * length l)
 unfolding is_within
 within_so l bit width e =
     let both = and_both (leb width 64) (leb (bit + width) (8 * length l)) e in
     (leb-true width 64 both.0, leb-true (bit + width) (8 * length l) both.1)
+
+-- of n bytes that are read into their places, one by one, those before the i-th are the field's first: the one at i comes in its place
+pub byte_put : (l : List ℕ) (k i n x y : ℕ) → i < n → get_or l (k + i) 0 < 256 → x ≡ field_of l (8 * k) (8 * i) * 2 ^ (8 * (n - i)) → y ≡ get_or l (k + i) 0
+    → bit_or x (y * 2 ^ (8 * (n - 1 - i))) ≡ field_of l (8 * k) (8 * (i + 1)) * 2 ^ (8 * (n - (i + 1)))
+byte_put l k i n x y below small e byte =
+    let left : ℕ = n - 1 - i in
+    let first : ℕ = field_of l (8 * k) (8 * i) in
+    let room : 2 ^ (8 * (n - i)) ≡ 2 ^ (8 * left) * 256 = ap (λ (w : ℕ). 2 ^ w) (omega arith) ∙ pow-add 2 (8 * left) 8 in
+    let joined : first * 256 + y ≡ field_of l (8 * k) (8 * (i + 1)) =
+    join l k i 8 _ _ refl (byte ∙ sym (field_byte l (k + i) small)) ∙ ap (field_of l (8 * k)) (omega arith) in
+    let apart : y * 2 ^ (8 * left) < 2 ^ (8 * (n - i)) = subst (λ (m : ℕ). y * 2 ^ (8 * left) < m) (ap (λ (w : ℕ). 2 ^ w) (omega arith)) (shl_lt 8 (8 * left) (omega arith)) in
+    let sum : bit_or x (y * 2 ^ (8 * left)) ≡ x + y * 2 ^ (8 * left) =
+    rw e (or_shifted first (8 * (n - i)) (y * 2 ^ (8 * left)) apart) in
+    let parts : x + y * 2 ^ (8 * left) ≡ (first * 256 + y) * 2 ^ (8 * left) = rw (e, room) (omega arith) in
+    sum ∙ parts ∙ ap₂ (λ (m w : ℕ). m * 2 ^ (8 * w)) joined (omega arith)
+
+-- a byte in its place among eight at most
+pub byte_fits : (i n y : ℕ) → i < n → n ≤ 8 → y < 256 → y * 2 ^ (8 * (n - 1 - i)) < 2 ^ 64
+byte_fits i n y below all small =
+    let left : ℕ = 8 * (n - 1 - i) in
+    lt_of_lt_of_le (shl_lt 8 left small) (lib.Pow.pow_mono {i = 8 + left} {j = 64} (omega arith))

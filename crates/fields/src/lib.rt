@@ -4,21 +4,15 @@
 ghost use Rattle.std.specs.Prelude.{◌≡◌, ltb, ◌+◌, ◌-◌, ◌*◌, ◌/◌, ◌%◌, ◌^◌, ◌≤◌, ◌<◌, length, get_or};
 ghost use Rattle.fields.specs.Field.{field_of, is_within, read_of, Put, Wrote, Mixed};
 
-fn wide(x: u8) -> u64
-    ensures { (result ≡ x) × (result < 256) }
-{
-    x as u64
-}
-
 // Shifts and masks by their meaning in numbers, so that no proof above speaks of bits.
-fn up(x: u64, k: u32) -> u64
+pub fn up(x: u64, k: u32) -> u64
     requires { (k < 64) × (x * 2 ^ k < 2 ^ 64) }
     ensures { result ≡ x * 2 ^ k }
 {
     x << k
 }
 
-fn down(x: u64, k: u32) -> u64
+pub fn down(x: u64, k: u32) -> u64
     requires { k < 64 }
     ensures { result ≡ x / 2 ^ k }
 {
@@ -32,43 +26,18 @@ fn low(x: u64, k: u32) -> u64
     x % (1 << k)
 }
 
-// Two, four and eight bytes from a byte's place as one number. The crates above prove that the bytes are there: a read of a
-// checked image needs no test of its own.
-pub fn pair_at(bytes: &[u8], at: usize) -> u64
-    requires { at + 2 ≤ length bytes.now }
-    ensures { (result ≡ field_of bytes.now (8 * at) 16) × (result < 2 ^ 16) }
+// N bytes from a byte's place as one number. The crates above prove that the bytes are there: a read of a checked image needs
+// no test of its own. (An `|` and not a `+`, and each byte put in its place by itself: so the eight loads of a word become one
+// load and a byte swap, wherever the whole word is used.)
+pub fn number_at<const N: usize>(bytes: &[u8], at: usize) -> u64
+    requires { (N ≤ 8) × (at + N ≤ length bytes.now) }
+    ensures { (result ≡ field_of bytes.now (8 * at) (8 * N)) × (result < 2 ^ (8 * N)) }
 {
-    wide(bytes[at]) * 256 + wide(bytes[at + 1])
-}
-
-pub fn half_at(bytes: &[u8], at: usize) -> u64
-    requires { at + 4 ≤ length bytes.now }
-    ensures { (result ≡ field_of bytes.now (8 * at) 32) × (result < 2 ^ 32) }
-{
-    pair_at(bytes, at) * 65536 + pair_at(bytes, at + 2)
-}
-
-// The sum of a number whose k low bits are 0 and one of k bits. (An `|` and not a `+`, and each byte put in its place by
-// itself: so the eight loads of `word_at` become one load and a byte swap, wherever the whole word is used.)
-fn beside(x: u64, y: u64, k: u32) -> u64
-    requires { (k < 64) × (x % 2 ^ k ≡ 0) × (y < 2 ^ k) }
-    ensures { result ≡ x + y }
-{
-    x | y
-}
-
-pub fn word_at(bytes: &[u8], at: usize) -> u64
-    requires { at + 8 ≤ length bytes.now }
-    ensures { result ≡ field_of bytes.now (8 * at) 64 }
-{
-    let a = wide(bytes[at]) * 0x100_0000_0000_0000;
-    let b = beside(a, wide(bytes[at + 1]) * 0x1_0000_0000_0000, 56);
-    let c = beside(b, wide(bytes[at + 2]) * 0x100_0000_0000, 48);
-    let d = beside(c, wide(bytes[at + 3]) * 0x1_0000_0000, 40);
-    let e = beside(d, wide(bytes[at + 4]) * 0x100_0000, 32);
-    let f = beside(e, wide(bytes[at + 5]) * 0x1_0000, 24);
-    let g = beside(f, wide(bytes[at + 6]) * 0x100, 16);
-    beside(g, wide(bytes[at + 7]), 8)
+    let mut number: u64 = 0;
+    for i in 0..N {
+        number |= up(u64::from(bytes[at + i]), 8 * (N - 1 - i) as u32);
+    }
+    number
 }
 
 // `width` bits of a word, with `after` bits after them: a field of a record that was read whole.
@@ -84,7 +53,7 @@ fn more(bytes: &[u8], acc: u64, k: usize, s: u32, t: u32) -> u64
     requires { (k < length bytes.now) × (s + t ≤ 8) × (acc * 2 ^ t + 2 ^ t ≤ 2 ^ 64) }
     ensures { result ≡ acc * 2 ^ t + get_or bytes.now k 0 / 2 ^ s % 2 ^ t }
 {
-    up(acc, t) + low(down(wide(bytes[k]), s), t)
+    up(acc, t) + low(down(u64::from(bytes[k]), s), t)
 }
 
 fn field_at(bytes: &[u8], bit: usize, width: u32) -> u64
@@ -95,10 +64,11 @@ fn field_at(bytes: &[u8], bit: usize, width: u32) -> u64
     let mut room = 8 - (bit % 8) as u32;
     let mut left = width;
     let mut acc: u64 = 0;
+    // (A `while`: it counts bits that are left, in steps as long as each byte has room.)
     while room <= left {
         acc = more(bytes, acc, k, 0, room);
-        left = left - room;
-        k = k + 1;
+        left -= room;
+        k += 1;
         room = 8;
     }
     if left == 0 {
@@ -119,6 +89,7 @@ fn within(bytes: &[u8], bit: usize, width: u32) -> bool
 }
 
 // The number that `width` bits from a bit's place make; none where the bytes do not have the field whole.
+#[tactic(auto, using(crate::proofs::Laws::within_so), unfolding(crate::specs::Field::read_of))]
 pub fn field(bytes: &[u8], bit: usize, width: u32) -> Option<u64>
     ensures { result ≡ read_of bytes.now bit width }
 {
@@ -129,11 +100,12 @@ pub fn field(bytes: &[u8], bit: usize, width: u32) -> Option<u64>
 }
 
 // A byte with v for the t bits that have s bits after them.
+#[tactic(auto, using(crate::proofs::Putting::mixed_lt))]
 fn mix(old: u8, s: u32, t: u32, v: u64) -> u8
     requires { (s + t ≤ 8) × (v < 2 ^ t) }
     ensures { Mixed old s t v result }
 {
-    let x = wide(old);
+    let x = u64::from(old);
     (up(down(x, s + t), s + t) + up(v, s) + low(x, s)) as u8
 }
 
@@ -151,10 +123,11 @@ fn put_at(out: &mut [u8], bit: usize, width: u32, value: u64)
     let mut k = bit / 8;
     let mut room = 8 - (bit % 8) as u32;
     let mut left = width;
+    // (A `while`: it counts bits that are left, in steps as long as each byte has room.)
     while room <= left {
-        left = left - room;
+        left -= room;
         put_in(out, k, 0, room, low(down(value, left), room));
-        k = k + 1;
+        k += 1;
         room = 8;
     }
     if left == 0 {
@@ -176,6 +149,7 @@ fn has_room(value: u64, width: u32) -> bool
 
 // Writes a value into `width` bits from a bit's place, and keeps every other bit. Where the bytes do not have the field
 // whole, or the value does not fit there, it answers false and writes nothing.
+#[tactic(auto, using(crate::proofs::Laws::within_so))]
 pub fn put(out: &mut [u8], bit: usize, width: u32, value: u64) -> bool
     ensures { Wrote out.old out.new bit width value result }
 {

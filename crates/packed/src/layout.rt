@@ -2,9 +2,9 @@
 ghost use Rattle.std.specs.Prelude.{◌≡◌, ◌≤◌, ◌<◌, length};
 ghost use Rattle.packed.specs.Layout.{header_of, nodes_at, literals_at, text_at, size_of, function_at, node_at, literal_at, part_at};
 
-use fields::{cut, half_at, pair_at, word_at};
+use fields::{cut, number_at};
 
-#[derive(Clone, Copy)]
+#[derive(Clone, Copy, Debug, PartialEq, Eq)]
 pub struct Header {
     pub edition: u8,
     pub functions: u8,
@@ -14,7 +14,7 @@ pub struct Header {
     pub root: u16,
 }
 
-#[derive(Clone, Copy)]
+#[derive(Clone, Copy, Debug, PartialEq, Eq)]
 pub struct Function {
     pub body: u16,
     pub count: u8,
@@ -22,7 +22,7 @@ pub struct Function {
     pub zero: u8,
 }
 
-#[derive(Clone, Copy)]
+#[derive(Clone, Copy, Debug, PartialEq, Eq)]
 pub struct Node {
     pub kind: u8,
     pub op: u8,
@@ -33,7 +33,7 @@ pub struct Node {
     pub zero: u16,
 }
 
-#[derive(Clone, Copy)]
+#[derive(Clone, Copy, Debug, PartialEq, Eq)]
 pub struct Literal {
     pub kind: u8,
     pub zero: u16,
@@ -41,30 +41,18 @@ pub struct Literal {
 }
 
 // The part of the text that a literal of kind 6 or 7 names.
-#[derive(Clone, Copy)]
+#[derive(Clone, Copy, Debug, PartialEq, Eq)]
 pub struct Part {
     pub zero: u32,
     pub start: u16,
     pub length: u16,
 }
 
-fn wide8(x: u8) -> usize
-    ensures { (result ≡ x) × (result < 256) }
-{
-    x as usize
-}
-
-fn wide16(x: u16) -> usize
-    ensures { (result ≡ x) × (result < 65536) }
-{
-    x as usize
-}
-
 pub fn header_of(image: &[u8]) -> Header
     requires { 8 ≤ length image.now }
     ensures { result ≡ header_of image.now }
 {
-    let w = word_at(image, 0);
+    let w = number_at::<8>(image, 0);
     Header {
         edition: cut(w, 60, 4) as u8,
         functions: cut(w, 52, 8) as u8,
@@ -79,25 +67,25 @@ pub fn header_of(image: &[u8]) -> Header
 pub fn nodes_at(h: Header) -> usize
     ensures { result ≡ nodes_at h }
 {
-    8 + 4 * wide8(h.functions)
+    8 + 4 * usize::from(h.functions)
 }
 
 pub fn literals_at(h: Header) -> usize
     ensures { result ≡ literals_at h }
 {
-    nodes_at(h) + 8 * wide16(h.nodes)
+    nodes_at(h) + 8 * usize::from(h.nodes)
 }
 
 pub fn text_at(h: Header) -> usize
     ensures { result ≡ text_at h }
 {
-    literals_at(h) + 10 * wide16(h.literals)
+    literals_at(h) + 10 * usize::from(h.literals)
 }
 
 pub fn size_of(h: Header) -> usize
     ensures { result ≡ size_of h }
 {
-    text_at(h) + wide16(h.text)
+    text_at(h) + usize::from(h.text)
 }
 
 // The records of an image that is as long as its header says. Functions and literals count from 0, nodes from 1.
@@ -105,7 +93,7 @@ pub fn function_at(image: &[u8], h: Header, f: usize) -> Function
     requires { (f < h.functions) × (size_of h ≤ length image.now) }
     ensures { result ≡ function_at image.now f }
 {
-    let w = half_at(image, 8 + 4 * f);
+    let w = number_at::<4>(image, 8 + 4 * f);
     Function {
         body: cut(w, 20, 12) as u16,
         count: cut(w, 16, 4) as u8,
@@ -118,7 +106,7 @@ pub fn node_at(image: &[u8], h: Header, n: usize) -> Node
     requires { (1 ≤ n) × (n ≤ h.nodes) × (size_of h ≤ length image.now) }
     ensures { result ≡ node_at image.now h n }
 {
-    let w = word_at(image, nodes_at(h) + 8 * (n - 1));
+    let w = number_at::<8>(image, nodes_at(h) + 8 * (n - 1));
     Node {
         kind: cut(w, 59, 5) as u8,
         op: cut(w, 55, 4) as u8,
@@ -135,11 +123,11 @@ pub fn literal_at(image: &[u8], h: Header, l: usize) -> Literal
     ensures { result ≡ literal_at image.now h l }
 {
     let at = literals_at(h) + 10 * l;
-    let w = pair_at(image, at);
+    let w = number_at::<2>(image, at);
     Literal {
         kind: cut(w, 12, 4) as u8,
         zero: cut(w, 0, 12) as u16,
-        payload: word_at(image, at + 2),
+        payload: number_at::<8>(image, at + 2),
     }
 }
 
@@ -147,7 +135,7 @@ pub fn part_at(image: &[u8], h: Header, l: usize) -> Part
     requires { (l < h.literals) × (size_of h ≤ length image.now) }
     ensures { result ≡ part_at image.now h l }
 {
-    let w = word_at(image, literals_at(h) + 10 * l + 2);
+    let w = number_at::<8>(image, literals_at(h) + 10 * l + 2);
     Part {
         zero: cut(w, 32, 32) as u32,
         start: cut(w, 16, 16) as u16,
