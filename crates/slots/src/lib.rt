@@ -10,7 +10,7 @@ use rules::Value;
 
 pub mod literals; // literals of the image
 
-#[derive(Clone, Copy)]
+#[derive(Clone, Copy, Debug, PartialEq, Eq)]
 pub struct Slot {
     pub kind: u64,
     pub payload: u64,
@@ -20,7 +20,7 @@ pub struct Slot {
 fn part(start: u32, length: u16) -> u64
     ensures { result ≡ start * 2 ^ 16 + length }
 {
-    start as u64 * 65536 + length as u64
+    u64::from(start) * 65536 + u64::from(length)
 }
 
 pub fn start_of(payload: u64) -> u32
@@ -44,55 +44,24 @@ fn low(payload: u64) -> u32
 pub fn slot_of(v: Value) -> Slot
     ensures { (result ≡ slot_of v) × (value_of (slot_of v).kind (slot_of v).payload ≡ v) }
 {
-    match v {
-        Value::Unit => Slot {
-            kind: 0,
-            payload: 0,
-        },
-        Value::Bool(b) => Slot {
-            kind: 1,
-            payload: b as u64,
-        },
-        Value::Unsigned(x) => Slot {
-            kind: 2,
-            payload: x,
-        },
-        Value::Signed(x) => Slot {
-            kind: 3,
-            payload: int_to_word(x),
-        },
-        Value::Float(x) => Slot {
-            kind: 4,
-            payload: float_to_word(x),
-        },
-        Value::Char(c) => Slot {
-            kind: 5,
-            payload: c as u64,
-        },
-        Value::Text(start, length) => Slot {
-            kind: 6,
-            payload: part(start, length),
-        },
-        Value::Bytes(start, length) => Slot {
-            kind: 7,
-            payload: part(start, length),
-        },
-        Value::Vec(c) => Slot {
-            kind: 8,
-            payload: c as u64,
-        },
-        Value::Tuple(c) => Slot {
-            kind: 9,
-            payload: c as u64,
-        },
-        Value::Object(c) => Slot {
-            kind: 10,
-            payload: c as u64,
-        },
-    }
+    let (kind, payload) = match v {
+        Value::Unit => (0, 0),
+        Value::Bool(b) => (1, u64::from(b)),
+        Value::Unsigned(x) => (2, x),
+        Value::Signed(x) => (3, int_to_word(x)),
+        Value::Float(x) => (4, float_to_word(x)),
+        Value::Char(c) => (5, u64::from(c)),
+        Value::Text(start, length) => (6, part(start, length)),
+        Value::Bytes(start, length) => (7, part(start, length)),
+        Value::Vec(c) => (8, u64::from(c)),
+        Value::Tuple(c) => (9, u64::from(c)),
+        Value::Object(c) => (10, u64::from(c)),
+    };
+    Slot { kind, payload }
 }
 
 // The value of a literal's kind and payload.
+#[tactic(auto, unfolding(rules::specs::Building::literal_of))]
 pub fn literal_of(kind: u64, payload: u64) -> Value
     ensures { result ≡ literal_of kind payload }
 {
@@ -109,6 +78,7 @@ pub fn literal_of(kind: u64, payload: u64) -> Value
 }
 
 // The value of a kind and a payload: a handle, or a literal's.
+#[tactic(auto, unfolding(crate::specs::Slot::value_of))]
 pub fn value_of(kind: u64, payload: u64) -> Value
     ensures { result ≡ value_of kind payload }
 {
