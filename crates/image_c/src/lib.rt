@@ -11,6 +11,8 @@ use image::load;
 pub extern "C" fn gablestrand_load(image: &[u8]) -> u64
     ensures { result ≡ place_of (load_of image.now) * 8 + number_of (load_of image.now) }
 {
-    let loaded = load(image);
-    loaded.place() as u64 * 8 + loaded.number() as u64
+    match load(image) {
+        Ok(_) => 0,
+        Err(refusal) => refusal.place() as u64 * 8 + u64::from(refusal.number()),
+    }
 }

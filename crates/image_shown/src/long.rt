@@ -11,45 +11,42 @@ const ROOM: usize = 2090;
 // The header of an image of that many nodes and one literal, whose root is node 1, and the literal: 7.
 fn frame(image: &mut [u8; ROOM], nodes: u16) {
     put(image, 0, 4, 1);
-    put(image, 12, 12, nodes as u64);
+    put(image, 12, 12, u64::from(nodes));
     put(image, 24, 12, 1);
     put(image, 52, 12, 1);
-    let literal = 64 + 64 * nodes as usize;
+    let literal = 64 + 64 * usize::from(nodes);
     put(image, literal, 4, 3);
     put(image, literal + 16, 64, 7);
 }
 
 // Node n of an image that has no functions.
 fn node(image: &mut [u8; ROOM], n: u16, kind: u64, a: u16, next: u16) {
-    let at = 64 * n as usize;
+    let at = 64 * usize::from(n);
     put(image, at, 5, kind);
-    put(image, at + 19, 12, a as u64);
-    put(image, at + 43, 12, next as u64);
+    put(image, at + 19, 12, u64::from(a));
+    put(image, at + 43, 12, u64::from(next));
 }
 
 fn show_nodes(rt: &impl Print, label: &[u8], image: &[u8; ROOM], nodes: u16) -> io::Result<()> {
-    show_start(rt, label, image, 18 + 8 * nodes as usize)
+    show_start(rt, label, image, 18 + 8 * usize::from(nodes))
 }
 
 // The nodes 2 to last - 1: indices that each have the node after it as their target, or a chain of breaks that all have the
 // last node as their value.
 fn between(image: &mut [u8; ROOM], last: u16, breaks: bool) {
-    let mut n: u16 = 2;
-    while n < last {
-        let next = n + 1;
+    for n in 2..last {
         if breaks {
-            node(image, n, 12, last, next);
+            node(image, n, 12, last, n + 1);
         } else {
-            node(image, n, 23, next, 0);
+            node(image, n, 23, n + 1, 0);
         }
-        n = next;
     }
 }
 
 // A read of a target of that many parts: `a.0.0.0 ..`.
 fn target(rt: &impl Print, label: &[u8], parts: u8) -> io::Result<()> {
     let mut image = [0u8; ROOM];
-    let last = parts as u16 + 2;
+    let last = u16::from(parts) + 2;
     frame(&mut image, last);
     node(&mut image, 1, 8, 2, 0);
     between(&mut image, last, false);

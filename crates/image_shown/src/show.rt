@@ -3,12 +3,11 @@ use image::load;
 use std::io;
 
 pub fn show(rt: &impl Print, label: &[u8], image: &[u8]) -> io::Result<()> {
-    let loaded = load(image);
     rt.write_all(label)?;
-    if loaded.number() == 0 {
-        return rt.write_all(b": loads\n");
+    match load(image) {
+        Ok(_) => rt.write_all(b": loads\n"),
+        Err(refusal) => println!(rt; ": {} at {}", refusal.number(), refusal.place()),
     }
-    println!(rt; ": {} at {}", loaded.number(), loaded.place())
 }
 
 // An image that is the first n bytes of an array.
