@@ -6,7 +6,7 @@ use lib.ListN.{length}
 use Rattle.packed.specs.declared.layout.Header.{Header}
 use Rattle.packed.specs.declared.layout.Node.{Node}
 use Rattle.packed.specs.Layout.{node_at}
-use Rattle.image.specs.declared.Loaded.TheVariants.{Image}
+use Rattle.std.proofs.Common.{Ok}
 use Rattle.image.specs.Load.{load_of}
 use Rattle.image.proofs.Chains.{Along, begins}
 use Rattle.rules.specs.Machine.{Ctl, instructions, items, arms, onward}
@@ -52,7 +52,7 @@ module _ {image : List ℕ} {h : Header} {n : ℕ} where
         → Reached image h t₀ [] run₀ words₀ bytes₀ (arms m (onward image h i) x) [] run₁ words₁ bytes₁ → AtChain image h n t₀ (arms m j x) j run₀ words₀ bytes₀ run₁ words₁ bytes₁
     arms_next {m} {x} long p = chain_next (λ (k : ℕ). arms m k x) long p
 
-    pub chain_less : load_of image ≡ Image h → i ≤ h.nodes → left_of h j < left_of h i
+    pub chain_less : load_of image ≡ Ok h → i ≤ h.nodes → left_of h j < left_of h i
     chain_less loaded last = rw next_is (onward_less image h loaded i more last)
 
 -- at the end of a chain

@@ -29,7 +29,7 @@ use Rattle.outcomes.specs.declared.Progress.TheVariants.{On, Out}
 use Rattle.frames.specs.declared.Told.{Told}
 use Rattle.frames.specs.declared.Told.TheVariants.{Holds, Fails, Out as ToldOut}
 use Rattle.outcomes.specs.Post.{Ready, Post, Advance, After, AfterOn, AfterText, AfterWords, EveryAfterRun, Falls}
-use Rattle.image.specs.declared.Loaded.TheVariants.{Image}
+use Rattle.std.proofs.Common.{Ok}
 use Rattle.image.specs.Load.{load_of}
 use types.Run.{OneOf, miss}
 use denote.Enum.Declared.{tag_of}
@@ -447,7 +447,7 @@ module _ {image : List ℕ} {h : Header} where
   no_more_post {r = Refused why place} q = not_more (q.ways.path [])
   no_more_post {r = Spent place} q = not_more (q.ways.path [])
 
-  pub break_of_lem : {t₀ : Ctl} {fs₀ : List Frame} {run words bytes run₁ words₁ bytes₁ : List ℕ} → load_of image ≡ Image h → (one : Outcome)
+  pub break_of_lem : {t₀ : Ctl} {fs₀ : List Frame} {run words bytes run₁ words₁ bytes₁ : List ℕ} → load_of image ≡ Ok h → (one : Outcome)
       → Post image h t₀ fs₀ run words bytes run₁ words₁ bytes₁ one → IsBreak image h one
   break_of_lem loaded (Done v) q = record { is = tt }
   break_of_lem loaded (Broke b v) q = record { is = record { loaded = loaded; first = q.ways.1; last = q.ways.2 } }

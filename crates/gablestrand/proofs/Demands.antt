@@ -6,11 +6,12 @@ use Prim.Native.Nat.{ℕ, ◌*◌, ◌≤◌, ◌<◌}
 use native.Mathlib.Omega.{arith}
 use lib.ListN.{length, drop}
 use Rattle.packed.specs.declared.layout.Header.{Header}
-use Rattle.image.specs.declared.Loaded.{Loaded}
-use Rattle.image.specs.declared.Loaded.TheVariants.{Image, BadLength, BadHeader, BadRecord, BadTree}
+use Rattle.std.proofs.Common.{Result, Ok, Err}
+use Rattle.image.specs.declared.LoadError.{LoadError}
+use Rattle.image.specs.declared.LoadError.TheVariants.{BadLength, BadHeader, BadRecord, BadTree}
 use Rattle.image.proofs.Loads.{header_right}
 use Rattle.rules.specs.Output.{Encoded, bits, nested, full}
-use Rattle.image.specs.Load.{load_of, number_of as load_number, place_of as load_place}
+use Rattle.image.specs.Load.{load_of, error_number}
 use Rattle.rules.specs.declared.Answer.{Answer}
 use Rattle.rules.specs.declared.Answer.TheVariants.{Value, NotLoaded, StoreTooShort, Spent}
 use Rattle.rules.specs.Answer.{number_of, place_of, steps_of}
@@ -28,18 +29,21 @@ not_both : (words bytes : List ℕ) → LongEnough words bytes → TooShort word
 not_both words bytes l (inl s) = omega (arith, l.0)
 not_both words bytes l (inr s) = omega (arith, l.1)
 
-same_header : (image : List ℕ) (h k : Header) → load_of image ≡ Image h → load_of image ≡ Image k → h ≡ k
+same_header : (image : List ℕ) (h k : Header) → load_of image ≡ Ok h → load_of image ≡ Ok k → h ≡ k
 same_header image h k p q = (header_right image h p).is ∙ sym (header_right image k q).is
 
--- an image that loads has no number
-not_unloaded : (why : Loaded) (h : Header) → why ≡ Image h → 1 ≤ load_number why → ⊥
-not_unloaded why h e l = omega (arith, ap load_number e)
+-- an image that loads is not refused
+not_unloaded : (x : Result Header LoadError) (error : LoadError) (h : Header) → x ≡ Err error → x ≡ Ok h → ⊥
+not_unloaded x error h e q = let z : ◌≡◌ {A = ℕ} 0 1 = cc in omega arith
+
+same_error : (x : Result Header LoadError) (a b : LoadError) → x ≡ Err a → x ≡ Err b → a ≡ b
+same_error x a b e q = cc
 
 module _ (image : List ℕ) (b : ℕ) where
   decided_once : (out : List ℕ) {a a' : Answer} {o o' : List ℕ} → Decided image b out a o → Decided image b out a' o' → (a ≡ a') × (o ≡ o')
-  decided_once out (unloaded p l) (unloaded q m) = (ap (λ (w : Loaded). NotLoaded (load_number w) (load_place w)) (sym p ∙ q), refl)
-  decided_once out (unloaded {why = why} p l) (loaded {h = h} q y) = absurd (not_unloaded why h (sym p ∙ q) l)
-  decided_once out (loaded {h = h} p x) (unloaded {why = why} q m) = absurd (not_unloaded why h (sym q ∙ p) m)
+  decided_once out (unloaded p) (unloaded q) = (ap NotLoaded (same_error (load_of image) _ _ p q), refl)
+  decided_once out (unloaded p) (loaded q y) = absurd (not_unloaded (load_of image) _ _ p q)
+  decided_once out (loaded p x) (unloaded q) = absurd (not_unloaded (load_of image) _ _ q p)
   decided_once out {a} {a'} {o} {o'} (loaded {h = h} p x) (loaded {h = k} q y) =
       budget_once image h out (start image h) b a a' o o' x
       (subst (λ (g : Header). Budgeted image g out (start image g) b a' o') (same_header image k h q p) y)
@@ -93,7 +97,7 @@ module _ (image : List ℕ) (b : ℕ) where
 
   pub refusal_keeps : {words bytes out w y o : List ℕ} {a : Answer} → Evaluated image b words bytes out a w y o → 1 ≤ number_of a → o ≡ out
   refusal_keeps (short s) l = refl
-  refusal_keeps (long _ (unloaded p m)) l = refl
+  refusal_keeps (long _ (unloaded p)) l = refl
   refusal_keeps (long _ (loaded {h = h} p (ended x m r))) l = answered_keeps h r l
   refusal_keeps (long _ (loaded p (spent x))) l = refl
 
@@ -104,12 +108,12 @@ module _ (image : List ℕ) (b : ℕ) where
 
 -- ---- demand 3: a table that loads, stores that are long enough, an output of some fixed length
 
-module _ (image : List ℕ) (h : Header) (loads : load_of image ≡ Image h) (words bytes out : List ℕ) (enough : LongEnough words bytes) where
+module _ (image : List ℕ) (h : Header) (loads : load_of image ≡ Ok h) (words bytes out : List ℕ) (enough : LongEnough words bytes) where
   budgeted : {b : ℕ} {a : Answer} {w y o : List ℕ} → Evaluated image b words bytes out a w y o → Budgeted image h out (start image h) b a o
   budgeted {b} x = go (decided image b enough x)
     where
       go : {a : Answer} {o : List ℕ} → Decided image b out a o → Budgeted image h out (start image h) b a o
-      go (unloaded {why = why} p l) = absurd (not_unloaded why h (sym p ∙ loads) l)
+      go (unloaded p) = absurd (not_unloaded (load_of image) _ _ p loads)
       go {a} {o} (loaded {h = k} p r) = subst (λ (g : Header). Budgeted image g out (start image g) b a o) (same_header image k h p loads) r
 
   answered_steps : {e : Cfg} {n : ℕ} {a : Answer} {o : List ℕ} → Answered image h out e n a o → steps_of a ≡ n
@@ -158,17 +162,16 @@ module _ (image : List ℕ) (h : Header) (loads : load_of image ≡ Image h) (wo
       go (spent x) = (refl, refl, refl)
 
 -- "Refusal 6 is given in no other case": the table loads, the stores are long enough, and every end comes after more steps
-unloaded_is_not_6 : (why : Loaded) → load_number why ≡ 6 → ⊥
-unloaded_is_not_6 (Image h) e = omega arith
+unloaded_is_not_6 : (error : LoadError) → error_number error ≡ 6 → ⊥
 unloaded_is_not_6 BadLength e = omega arith
 unloaded_is_not_6 BadHeader e = omega arith
 unloaded_is_not_6 (BadRecord place) e = omega arith
 unloaded_is_not_6 (BadTree n) e = omega arith
 
 pub six_only : (image : List ℕ) (b : ℕ) {words bytes out w y o : List ℕ} {r : Answer} → Evaluated image b words bytes out r w y o → number_of r ≡ 6
-    → (h : Header) × LongEnough words bytes × (load_of image ≡ Image h) × ((n : ℕ) (e : Cfg) → Ends image h (start image h) n e → b < n)
+    → (h : Header) × LongEnough words bytes × (load_of image ≡ Ok h) × ((n : ℕ) (e : Cfg) → Ends image h (start image h) n e → b < n)
 six_only image b (short s) q = absurd (omega arith)
-six_only image b (long l (unloaded {why = why} p m)) q = absurd (unloaded_is_not_6 why q)
+six_only image b (long l (unloaded {error = error} p)) q = absurd (unloaded_is_not_6 error q)
 six_only image b {out = out} (long l (loaded {h = h} {answer = a} {out' = o} p x)) q =
     let spent = six_is_spent image h out (start image h) b a o x q in
     (h, l, p, λ n e. first_part_lem image h (start image h) b spent.0 n e spent.1)
@@ -219,7 +222,7 @@ answered_within image h {out = out} {n = n} (valued {v = v} {σ = σ}) =
 
 length-within : {image words bytes out w y o : List ℕ} {b : ℕ} {a : Answer} → Evaluated image b words bytes out a w y o → length_of a ≤ length out
 length-within (short s) = omega arith
-length-within (long _ (unloaded p l)) = omega arith
+length-within (long _ (unloaded p)) = omega arith
 length-within {image} (long _ (loaded {h = h} p (ended x l told))) = answered_within image h told
 length-within (long _ (loaded p (spent x))) = omega arith
 

@@ -7,18 +7,14 @@ use Rattle.std.proofs.Common.{zero-le}
 use lib.ListN.{length}
 use Rattle.packed.specs.declared.layout.Header.{Header}
 use Rattle.packed.specs.Layout.{size_of}
-use types.Run.{OneOf, miss}
-use denote.Enum.Declared.{tag_of}
-use Rattle.image.specs.declared.Loaded.{Loaded}
-use Rattle.image.specs.declared.Loaded.TheVariants.{Image, BadLength, BadHeader, BadRecord, BadTree}
-use Rattle.image.specs.contracts.Loaded.{the_type}
-use Rattle.image.specs.Load.{load_of, number_of as load_number, place_of as load_place}
+use Rattle.std.proofs.Common.{Ok}
+use Rattle.image.specs.Load.{load_of}
 use Rattle.image.proofs.Loads.{header_right}
 use Rattle.rules.specs.declared.Value.{Value}
 use Rattle.rules.specs.declared.Refusal.{Refusal}
 use Rattle.rules.specs.declared.Refusal.TheVariants.{BreakOutside}
 use Rattle.rules.specs.declared.Answer.{Answer}
-use Rattle.rules.specs.declared.Answer.TheVariants.{Refused as ARefused, Spent as ASpent, NotLoaded}
+use Rattle.rules.specs.declared.Answer.TheVariants.{Refused as ARefused, Spent as ASpent}
 use Rattle.rules.specs.Store.{Store, empty}
 use Rattle.rules.specs.Machine.{enter, ret, Cfg, going, stop}
 use Rattle.rules.specs.Runs.{start, refused, finished, Comes, stopped, valued, Budgeted, ended, spent, out_of, value_encoded}
@@ -30,7 +26,7 @@ use Rattle.stores.specs.Stores.{store_of, bindings_in, pendings_in, cells_in, ta
 use Rattle.outcomes.specs.declared.Outcome.{Outcome}
 use Rattle.outcomes.specs.declared.Outcome.TheVariants.{Done, Broke, Refused, Spent}
 use Rattle.outcomes.specs.Post.{Ready, Ways, Post}
-use Rattle.gablestrand.specs.Evaluate.{store_words, store_bytes, LongEnough, cleared, Decided, unloaded, Evaluated, long}
+use Rattle.gablestrand.specs.Evaluate.{store_words, store_bytes, LongEnough, cleared, Decided, Evaluated, long}
 use Rattle.gablestrand.specs.Answering.{Finished}
 
 -- the numbers of a run that begins
@@ -41,7 +37,7 @@ fresh_empty : (budget : ℕ) (words bytes : List ℕ) → store_of (fresh budget
 unfolding store_of bindings_in pendings_in cells_in view
 fresh_empty budget words bytes = refl
 
-pub fresh_ready : {image : List ℕ} {h : Header} {words bytes : List ℕ} (budget : ℕ) → load_of image ≡ Image h → length words ≡ 8192 → length bytes ≡ 16384
+pub fresh_ready : {image : List ℕ} {h : Header} {words bytes : List ℕ} (budget : ℕ) → load_of image ≡ Ok h → length words ≡ 8192 → length bytes ≡ 16384
     → Ready image h h.root (fresh budget) words bytes
 fresh_ready {image} {h} budget loaded w b =
     record {
@@ -52,7 +48,7 @@ fresh_ready {image} {h} budget loaded w b =
       room = b;
     }
 
-pub loaded_whole : (image : List ℕ) {h : Header} → load_of image ≡ Image h → size_of h ≤ length image
+pub loaded_whole : (image : List ℕ) {h : Header} → load_of image ≡ Ok h → size_of h ≤ length image
 loaded_whole image {h} loaded = omega (arith, (header_right image h loaded).exact)
 
 abbrev AtRoot : List ℕ → Header → ℕ → List ℕ → List ℕ → List ℕ → List ℕ → List ℕ → Outcome → Type 0
@@ -115,20 +111,6 @@ module _ {image : List ℕ} {h : Header} {budget : ℕ} {words bytes run' words'
         takes = way.takes [];
         place = way.place [];
       }))
-
--- what is no image has a number
-pub has_number : (why : Loaded) → OneOf (1 ∷ 2 ∷ 3 ∷ 4 ∷ []) (tag_of the_type why) → 1 ≤ load_number why
-has_number (Image h) keys = absurd (miss (1 ∷ 2 ∷ 3 ∷ 4 ∷ []) 0 tt keys)
-has_number BadLength keys = omega arith
-has_number BadHeader keys = omega arith
-has_number (BadRecord place) keys = omega arith
-has_number (BadTree n) keys = omega arith
-
-pub not_loaded : {image out : List ℕ} {budget number place : ℕ} (why : Loaded) → why ≡ load_of image → OneOf (1 ∷ 2 ∷ 3 ∷ 4 ∷ []) (tag_of the_type why) → number ≡ load_number why → place ≡ load_place why
-    → Decided image budget out (NotLoaded number place) out
-not_loaded {image} {out} {budget} {number} {place} why e keys n p =
-    subst (λ (k : ℕ). Decided image budget out (NotLoaded k place) out) (sym n)
-    (subst (λ (k : ℕ). Decided image budget out (NotLoaded (load_number why) k) out) (sym p) (unloaded (sym e) (has_number why keys)))
 
 pub cleared_after : {image words bytes out w y o : List ℕ} {b : ℕ} {a : Answer} → LongEnough words bytes → Decided image b out a o → w ≡ cleared store_words words → y ≡ cleared store_bytes bytes
     → Evaluated image b words bytes out a w y o

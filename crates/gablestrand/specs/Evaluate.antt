@@ -1,9 +1,8 @@
 -- One call, for every input: the answer, and what stands in the three lent slices afterwards.
-use Rattle.std.specs.Prelude.{ℕ, zero, suc, ◌≤◌, ◌<◌, ◌≡◌, ◌⊎◌, List, [], ◌∷◌, ◌++◌, length, drop}
+use Rattle.std.specs.Prelude.{ℕ, zero, suc, ◌≤◌, ◌<◌, ◌≡◌, ◌⊎◌, List, [], ◌∷◌, ◌++◌, length, drop, Ok, Err}
 use Rattle.packed.specs.declared.layout.Header.{Header}
-use Rattle.image.specs.declared.Loaded.{Loaded}
-use Rattle.image.specs.declared.Loaded.TheVariants.{Image}
-use Rattle.image.specs.Load.{load_of, number_of as load_number, place_of as load_place}
+use Rattle.image.specs.declared.LoadError.{LoadError}
+use Rattle.image.specs.Load.{load_of}
 use Rattle.rules.specs.declared.Answer.{Answer}
 use Rattle.rules.specs.declared.Answer.TheVariants.{Value, Refused, Spent, NotLoaded, StoreTooShort}
 use Rattle.rules.specs.Answer.{number_of, place_of, steps_of}
@@ -32,8 +31,8 @@ cleared n l = zeros n ++ drop n l
 
 -- the refusals 1 to 4, or what the rules and the budget give
 pub data Decided (image : List ℕ) (budget : ℕ) (out : List ℕ) : Answer → List ℕ → Type 0 where
-  unloaded : {why : Loaded} → load_of image ≡ why → 1 ≤ load_number why → Decided image budget out (NotLoaded (load_number why) (load_place why)) out
-  loaded : {h : Header} {answer : Answer} {out' : List ℕ} → load_of image ≡ Image h → Budgeted image h out (start image h) budget answer out'
+  unloaded : {error : LoadError} → load_of image ≡ Err error → Decided image budget out (NotLoaded error) out
+  loaded : {h : Header} {answer : Answer} {out' : List ℕ} → load_of image ≡ Ok h → Budgeted image h out (start image h) budget answer out'
       → Decided image budget out answer out'
 
 -- "except after 5, which touches nothing"
@@ -47,7 +46,7 @@ abbrev pub length_of : Answer → ℕ
 length_of (Value length steps) = length
 length_of (Refused why place steps) = 0
 length_of (Spent place steps) = 0
-length_of (NotLoaded number place) = 0
+length_of (NotLoaded error) = 0
 length_of StoreTooShort = 0
 
 -- the same in four numbers

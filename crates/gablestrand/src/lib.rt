@@ -2,7 +2,6 @@
 #![tactic(auto)]
 
 ghost use Rattle.std.specs.Prelude.{◌≡◌, length};
-ghost use Rattle.image.specs.declared.Loaded.TheVariants.{Image};
 ghost use Rattle.image.specs.Load.{load_of};
 ghost use Rattle.rules.specs.Runs.{start, Budgeted};
 ghost use Rattle.stores.specs.Stores.{store_of};
@@ -54,7 +53,7 @@ fn run_image(
     bytes: &mut [u8],
     out: &mut [u8],
 ) -> Answer
-    requires { (load_of image.now ≡ Image h) × (length words.old ≡ store_words) × (length bytes.old ≡ store_bytes) }
+    requires { (load_of image.now ≡ Ok h) × (length words.old ≡ store_words) × (length bytes.old ≡ store_bytes) }
     ensures { Budgeted image.now h out.old (start image.now h) budget result out.new }
 {
     let mut run = [0u64; 16];

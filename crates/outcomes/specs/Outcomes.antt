@@ -1,7 +1,6 @@
 -- What was got, written or bound, as an outcome; a node of an image that loads.
-use Rattle.std.specs.Prelude.{ℕ, ◌≤◌, ◌≡◌, Bool, true, false, List}
+use Rattle.std.specs.Prelude.{ℕ, ◌≤◌, ◌≡◌, Bool, true, false, List, Ok}
 use Rattle.packed.specs.declared.layout.Header.{Header}
-use Rattle.image.specs.declared.Loaded.TheVariants.{Image}
 use Rattle.image.specs.Load.{load_of}
 use Rattle.rules.specs.declared.Value.{Value}
 use Rattle.rules.specs.declared.Value.TheVariants.{Unit as VUnit}
@@ -27,7 +26,7 @@ bound_of true n v = Done v
 bound_of false n v = Refused Bindings n
 
 pub record IsNode (image : List ℕ) (h : Header) (n : ℕ) : Type 0 where
-  pub loaded : load_of image ≡ Image h
+  pub loaded : load_of image ≡ Ok h
   pub first : 1 ≤ n
   pub last : n ≤ h.nodes
 

@@ -1,7 +1,6 @@
 -- What an evaluator promises: whatever frames wait below, the machine of the rules goes the way that the evaluator went.
-use Rattle.std.specs.Prelude.{ℕ, ◌≤◌, ◌<◌, ◌≡◌, List, [], ◌++◌, length}
+use Rattle.std.specs.Prelude.{ℕ, ◌≤◌, ◌<◌, ◌≡◌, List, [], ◌++◌, length, Ok}
 use Rattle.packed.specs.declared.layout.Header.{Header}
-use Rattle.image.specs.declared.Loaded.TheVariants.{Image}
 use Rattle.image.specs.Load.{load_of}
 use Rattle.rules.specs.declared.Refusal.{Refusal}
 use Rattle.rules.specs.Store.{Store, most_text}
@@ -16,7 +15,7 @@ use Rattle.std.specs.declared.ops.ControlFlow.TheVariants.{Continue, Break}
 module _ (image : List ℕ) (h : Header) where
   -- a node of an image that loads, and stores that fit
   pub record Ready (n : ℕ) (run words bytes : List ℕ) : Type 0 where
-    pub loaded : load_of image ≡ Image h
+    pub loaded : load_of image ≡ Ok h
     pub first : 1 ≤ n
     pub last : n ≤ h.nodes
     pub fits : Fits run words
