@@ -13,7 +13,7 @@ use lib.Seq.{sets, set-get_or, get_or-drop}
 use Rattle.rules.specs.declared.Value.{Value}
 use Rattle.rules.specs.declared.Value.TheVariants.{Unit as VUnit}
 use Rattle.rules.specs.Store.{Cell, head, item, entry, with_cells, count_in, value_in, holding, item_at, stored_at}
-use Rattle.stores.specs.declared.Found.TheVariants.{At, Nothing}
+use Rattle.std.specs.Prelude.{Some, None}
 use Rattle.slots.specs.Slot.{slot_of, slot_words, value_of, Put}
 use Rattle.stores.specs.View.{rec_at}
 use Rattle.stores.specs.Stores.{cells_of, cell_in, cells_in, store_of, Fits, Became, BecameWords, Tried, TriedWords}
@@ -111,11 +111,11 @@ module _ (run words : List ℕ) (i : ℕ) where
   pub count_past : cells_of run ≤ i → CountIn 0 run words i
   count_past past = count_is (none_there past)
 
-  pub item_found : (count index : ℕ) → CountIn count run words i → index < count → ItemAt (At (i + 1 + index)) run words i index
+  pub item_found : (count index : ℕ) → CountIn count run words i → index < count → ItemAt (Some (i + 1 + index)) run words i index
   unfolding item_at
   item_found count index is below = record { is = λ bytes. rw (sym (is.is bytes), lt-ltb index count below) }
 
-  pub item_missing : (count index : ℕ) → CountIn count run words i → count ≤ index → ItemAt Nothing run words i index
+  pub item_missing : (count index : ℕ) → CountIn count run words i → count ≤ index → ItemAt None run words i index
   unfolding item_at
   item_missing count index is past = record { is = λ bytes. rw (sym (is.is bytes), le-ltb index count past) }
 

@@ -13,7 +13,7 @@ use lib.ListN.{get_or, drop, drop_of_length-le}
 use lib.Seq.{drop-cons}
 use Rattle.packed.specs.declared.layout.Header.{Header}
 use Rattle.rules.specs.Store.{Cell, head, item, entry, entry_at, part_text, same_text}
-use Rattle.stores.specs.declared.Found.TheVariants.{At, Nothing}
+use Rattle.std.specs.Prelude.{Some, None}
 use Rattle.stores.specs.Finding.{found_of}
 use Rattle.stores.specs.Stores.{cells_of, store_of}
 use Rattle.boxes.specs.Cells.{EntryAt, matches, is_entry}
@@ -67,13 +67,13 @@ module _ (image : List ℕ) (h : Header) (owner key : ℕ) where
     pub entry_start : LeftFrom 0
     entry_start = record { is = λ bytes. refl }
 
-    pub entry_here : (i : ℕ) → i < cells_of run → LeftFrom i → true ≡ is_entry image h owner key words i → EntryAt (At i) image h run words owner key
+    pub entry_here : (i : ℕ) → i < cells_of run → LeftFrom i → true ≡ is_entry image h owner key words i → EntryAt (Some i) image h run words owner key
     entry_here i below left e = record { is = λ bytes. sym (ap found_of (left.is bytes ∙ look run words bytes i true below e)) }
 
     pub entry_next : (i : ℕ) → i < cells_of run → LeftFrom i → false ≡ is_entry image h owner key words i → LeftFrom (i + 1)
     entry_next i below left e = record { is = λ bytes. left.is bytes ∙ look run words bytes i false below e }
 
-    pub entry_missing : (i : ℕ) → cells_of run ≤ i → LeftFrom i → EntryAt Nothing image h run words owner key
+    pub entry_missing : (i : ℕ) → cells_of run ≤ i → LeftFrom i → EntryAt None image h run words owner key
     unfolding entry_at
     entry_missing i past left =
         record {

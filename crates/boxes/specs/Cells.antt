@@ -1,11 +1,10 @@
 -- Vec, tuple and object in cells: what their functions give and leave, by the definitions of the rules.
-use Rattle.std.specs.Prelude.{ℕ, ◌+◌, ◌≤◌, ◌≡◌, Bool, false, ◌&&◌, List, [], ◌∷◌, ◌++◌, map, eqb, length, get_or, drop}
-use Rattle.std.proofs.Math.Option.{Option}
+use Rattle.std.specs.Prelude.{ℕ, Option, ◌+◌, ◌≤◌, ◌≡◌, Bool, false, ◌&&◌, List, [], ◌∷◌, ◌++◌, map, eqb, length, get_or, drop}
+use Rattle.std.proofs.Math.Option.{Option as Changed}
 use Rattle.packed.specs.declared.layout.Header.{Header}
 use Rattle.rules.specs.declared.Value.{Value}
 use Rattle.rules.specs.Store.{Cell, head, item, entry, Store, dropped, count_in, item_at, cell_at, entry_at, part_text, same_text, taken_cells}
 use Rattle.rules.specs.Building.{item_cells}
-use Rattle.stores.specs.declared.Found.{Found}
 use Rattle.stores.specs.Finding.{found_of}
 use Rattle.stores.specs.View.{rec_at}
 use Rattle.stores.specs.Stores.{store_of, cell_in, bindings_in, pendings_in, cells_in}
@@ -14,14 +13,14 @@ use Rattle.stores.specs.Stores.{store_of, cell_in, bindings_in, pendings_in, cel
 pub record CountIn (r : ℕ) (run words : List ℕ) (owner : ℕ) : Type 0 where
   pub is : (bytes : List ℕ) → r ≡ count_in (get_or (store_of run words bytes).cells owner (head 0))
 
-pub record ItemAt (r : Found) (run words : List ℕ) (owner index : ℕ) : Type 0 where
+pub record ItemAt (r : Option ℕ) (run words : List ℕ) (owner index : ℕ) : Type 0 where
   pub is : (bytes : List ℕ) → r ≡ found_of (item_at (store_of run words bytes) owner index)
 
 pub record CellAt (r : Value) (run words : List ℕ) (i : ℕ) : Type 0 where
   pub is : (bytes : List ℕ) → r ≡ cell_at (store_of run words bytes) i
 
 -- "Object keys are compared by content"
-pub record EntryAt (r : Found) (image : List ℕ) (h : Header) (run words : List ℕ) (owner key : ℕ) : Type 0 where
+pub record EntryAt (r : Option ℕ) (image : List ℕ) (h : Header) (run words : List ℕ) (owner key : ℕ) : Type 0 where
   pub is : (bytes : List ℕ) → r ≡ found_of (entry_at image h owner (part_text image h key) 0 (store_of run words bytes).cells)
 
 -- a cell that is the owner's entry of that key
@@ -37,11 +36,11 @@ abbrev pub head_words : ℕ → List ℕ
 head_words count = count ∷ 0 ∷ 0 ∷ 0 ∷ []
 
 -- "a field that is absent is entered", in one cell
-abbrev pub field_entered : ℕ → ℕ → Value → Store → Option Store
+abbrev pub field_entered : ℕ → ℕ → Value → Store → Changed Store
 field_entered owner key v σ = taken_cells σ (entry owner key v ∷ [])
 
 -- "vec or tuple of n takes 1+n", of the items that are pending from `from` on
-abbrev pub items_taken : ℕ → Store → Option Store
+abbrev pub items_taken : ℕ → Store → Changed Store
 items_taken from σ = taken_cells (dropped from σ) (item_cells σ (drop from σ.pending))
 
 -- the pending items from `from` on, so many, in the cells after `head`

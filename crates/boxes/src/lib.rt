@@ -12,9 +12,8 @@ ghost use Rattle.std.proofs.lemmas.List.Edits.{sets};
 use packed::layout::Header;
 use rules::Value;
 use slots::{put_slot, value_of};
-use stores::Found;
 use stores::pending::{drop_pending, pending_since};
-use stores::run::CELLS;
+use stores::run::{CELLS, MOST_CELLS};
 use texts::same_part;
 
 // The count of a vec or tuple; 0 where the cell is no head.
@@ -22,24 +21,22 @@ pub fn count_in(words: &[u64], run: &[u64; 16], owner: usize) -> u64
     requires { Fits run.now words.now }
     ensures { CountIn result run.now words.now owner }
 {
-    if owner < run[CELLS] as usize {
-        if words[1794 + 4 * owner] % 4 == 0 {
-            return words[1792 + 4 * owner];
-        }
+    if owner < run[CELLS] as usize && words[1794 + 4 * owner] % 4 == 0 {
+        return words[1792 + 4 * owner];
     }
     0
 }
 
 // The cell of an item of a vec or tuple.
-pub fn item_at(words: &[u64], run: &[u64; 16], owner: u32, index: u16) -> Found
+pub fn item_at(words: &[u64], run: &[u64; 16], owner: u32, index: u16) -> Option<usize>
     requires { Fits run.now words.now }
     ensures { ItemAt result run.now words.now owner index }
 {
     let head = owner as usize;
     if (index as u64) < count_in(words, run, head) {
-        return Found::At(head + 1 + index as usize);
+        return Some(head + 1 + index as usize);
     }
-    Found::Nothing
+    None
 }
 
 // The value of cell i; unit where it is none or a head.
@@ -47,10 +44,8 @@ pub fn cell_at(words: &[u64], run: &[u64; 16], i: usize) -> Value
     requires { Fits run.now words.now }
     ensures { CellAt result run.now words.now i }
 {
-    if i < run[CELLS] as usize {
-        if words[1794 + 4 * i] % 4 != 0 {
-            return value_of(words[1793 + 4 * i], words[1792 + 4 * i]);
-        }
+    if i < run[CELLS] as usize && words[1794 + 4 * i] % 4 != 0 {
+        return value_of(words[1793 + 4 * i], words[1792 + 4 * i]);
     }
     Value::Unit
 }
@@ -60,10 +55,8 @@ pub fn store_cell(words: &mut [u64], run: &[u64; 16], i: usize, v: Value)
     requires { Fits run.now words.old }
     ensures { BecameWords (λ σ. stored_at σ i v) run.now words.old run.now words.new }
 {
-    if i < run[CELLS] as usize {
-        if words[1794 + 4 * i] % 4 != 0 {
-            put_slot(words, 1792 + 4 * i, v);
-        }
+    if i < run[CELLS] as usize && words[1794 + 4 * i] % 4 != 0 {
+        put_slot(words, 1792 + 4 * i, v);
     }
 }
 
@@ -73,13 +66,7 @@ fn is_entry(image: &[u8], h: Header, words: &[u64], i: usize, owner: u32, key: u
     ensures { result ≡ is_entry image.now h owner key words.now i }
 {
     let what = words[1794 + 4 * i];
-    if what % 4 < 2 {
-        return false;
-    }
-    if what / 4 != owner as u64 {
-        return false;
-    }
-    same_part(image, h, words[1795 + 4 * i], key)
+    2 <= what % 4 && what / 4 == owner as u64 && same_part(image, h, words[1795 + 4 * i], key)
 }
 
 // The entry of an object with that key.
@@ -90,19 +77,16 @@ pub fn entry_at(
     run: &[u64; 16],
     owner: u32,
     key: u64,
-) -> Found
+) -> Option<usize>
     requires { (size_of h ≤ length image.now) × Fits run.now words.now }
     ensures { EntryAt result image.now h run.now words.now owner key }
 {
-    let cells = run[CELLS] as usize;
-    let mut i = 0;
-    while i < cells {
+    for i in 0..run[CELLS] as usize {
         if is_entry(image, h, words, i, owner, key) {
-            return Found::At(i);
+            return Some(i);
         }
-        i = i + 1;
     }
-    Found::Nothing
+    None
 }
 
 // A head of so many items as cell i.
@@ -116,9 +100,6 @@ pub fn put_head(words: &mut [u64], i: usize, count: u64)
     words[at + 2] = 0;
     words[at + 3] = 0;
 }
-
-// The cells that there are at most.
-const MOST_CELLS: u64 = 1024;
 
 // A new field of an object, in one cell; false where there is none left.
 pub fn enter_field(words: &mut [u64], run: &mut [u64; 16], owner: u32, key: u64, v: Value) -> bool
@@ -142,25 +123,24 @@ fn copy_items(words: &mut [u64], head: usize, from: usize, count: usize)
     requires { (head + 1 + count ≤ 1024) × (count ≤ 512 - from) × (8192 ≤ length words.old) }
     ensures { CopiedItems head from count words.old words.new }
 {
-    let mut n = 0;
-    while n < count {
+    for n in 0..count {
         let at = 1792 + 4 * (head + 1 + n);
         words[at] = words[768 + 2 * (from + n)];
         words[at + 1] = words[769 + 2 * (from + n)];
         words[at + 2] = 4 * head as u64 + 1;
         words[at + 3] = 0;
-        n = n + 1;
     }
 }
 
-// A vec or tuple of the pending items from `from` on, which are given back: its head is the first cell that was free. All its cells or, where there are not so many left, none.
+// A vec or tuple of the pending items from `from` on, which are given back: its head is the first cell that was free. All its cells or, where there are not so
+// many left, none.
 pub fn take_items(words: &mut [u64], run: &mut [u64; 16], from: u64) -> bool
     requires { Fits run.old words.old }
     ensures { TriedWords result (items_taken from) run.old words.old run.new words.new }
 {
     let head = run[CELLS];
     let count = pending_since(run, from);
-    if 1024 < head + 1 + count {
+    if MOST_CELLS < head + 1 + count {
         return false;
     }
     put_head(words, head as usize, count);
