@@ -10,6 +10,7 @@ use borrow.Author.Tests.{leb-true, ltb-true}
 use lib.Dec.{leb, ltb}
 use lib.ListN.{length}
 use Rattle.fields.proofs.Tests.{and_both}
+use Rattle.std.specs.Prelude.{Ok}
 use Rattle.packed.specs.declared.layout.Header.{Header}
 use Rattle.packed.specs.declared.layout.Node.{Node}
 use Rattle.kinds.specs.declared.Role.{Role}
@@ -17,14 +18,13 @@ use Rattle.kinds.specs.declared.Role.TheVariants.{Node as NodeRole}
 use Rattle.kinds.specs.declared.Class.TheVariants.{Target}
 use Rattle.packed.specs.Layout.{node_at, size_of}
 use Rattle.kinds.specs.Kinds.{row_of, table}
-use Rattle.image.specs.declared.Loaded.TheVariants.{Image}
 use Rattle.image.specs.Load.{load_of}
 use Rattle.records.specs.Records.{fits}
 use Rattle.image.proofs.Loads.{Reaches, nothing, on, header_right, node_loaded, a_reaches, text_asked}
 use Rattle.targets.specs.Reading.{IsTarget}
 
 -- what a node names whose kind asks for a target
-pub target_of : (image : List ℕ) (h : Header) (n : ℕ) → load_of image ≡ Image h → 1 ≤ n → n ≤ h.nodes
+pub target_of : (image : List ℕ) (h : Header) (n : ℕ) → load_of image ≡ Ok h → 1 ≤ n → n ≤ h.nodes
     → (row_of (node_at image h n).kind).a ≡ NodeRole true false Target → IsTarget image h (node_at image h n).a
 unfolding fits
 target_of image h n loaded first last row =

@@ -1,35 +1,30 @@
 // Targets, as interpreter.rs has them: what a name, a field or an index names, read, set and assigned.
 #![tactic(auto)]
 
-ghost use Rattle.std.specs.Prelude.{◌≡◌, ◌≤◌, ◌<◌, length};
+ghost use Rattle.std.specs.Prelude.{◌≡◌, ◌≤◌, ◌<◌, Ok, length};
 ghost use Rattle.packed.specs.Layout.{size_of, node_at};
 ghost use Rattle.rules.specs.Store.{sought, item_at, as_object, as_items};
 ghost use Rattle.rules.specs.Targets.{name_place, field_place, index_in, index_place, read_at, read_target, target_read, target_place, target_set, target_assigned};
-ghost use Rattle.stores.specs.Stores.{Fits};
-ghost use Rattle.targets.specs.Reading.{IsTarget, Placed, Gets, assigned_value, field_set, binding_assigned, cell_assigned, WritesWords};
+ghost use Rattle.stores.specs.Stores.{Fits, BecameWords};
+ghost use Rattle.targets.specs.Reading.{IsTarget, Placed, Gets, assigned_value, put_in, field_set, WritesWords};
 
 use bindings::{bound_at, look_up, rebind};
 use boxes::{cell_at, enter_field, entry_at, item_at, store_cell};
-use numbers::{Arith, assign_int};
+use numbers::{OpError, assign_int};
 use packed::layout::{Header, node_at};
-use rules::{Got, Place, Refusal, Value};
+use rules::{Place, Refusal, Refused, Value};
 use slots::literals::key_of;
-use stores::Found;
 
-// What a write comes to.
-#[derive(Clone, Copy)]
-pub enum Written {
-    Done,
-    Refused(Refusal, u16),
-}
-
-fn name_place(words: &[u64], run: &[u64; 16], at: u16, name: u16) -> Place
+fn name_place(words: &[u64], run: &[u64; 16], at: u16, name: u16) -> Result<Place, Refused>
     requires { Fits run.now words.now }
     ensures { Placed result (λ σ. name_place at (sought σ name)) run.now words.now }
 {
     match look_up(words, run, name) {
-        Found::At(i) => Place::Binding(i),
-        Found::Nothing => Place::Nowhere(Refusal::MissingName, at),
+        Some(i) => Ok(Place::Binding(i)),
+        None => Err(Refused {
+            why: Refusal::MissingName,
+            place: at,
+        }),
     }
 }
 
@@ -42,83 +37,103 @@ fn field_place(
     at: u16,
     l: u16,
     v: Value,
-) -> Place
+) -> Result<Place, Refused>
     requires { (l < h.literals) × (size_of h ≤ length image.now) × Fits run.now words.now }
     ensures { Placed result (λ σ. field_place image.now h σ at l (as_object v)) run.now words.now }
 {
     let Value::Object(owner) = v else {
-        return Place::Nowhere(Refusal::ExpectedType, at);
+        return Err(Refused {
+            why: Refusal::ExpectedType,
+            place: at,
+        });
     };
     match entry_at(image, h, words, run, owner, key_of(image, h, l)) {
-        Found::At(i) => Place::Cell(i),
-        Found::Nothing => Place::Absent(owner),
-    }
-}
-
-fn item_place(words: &[u64], run: &[u64; 16], at: u16, index: u16, owner: u32) -> Place
-    requires { Fits run.now words.now }
-    ensures { Placed result (λ σ. index_in at (item_at σ owner index)) run.now words.now }
-{
-    match item_at(words, run, owner, index) {
-        Found::At(i) => Place::Cell(i),
-        Found::Nothing => Place::Nowhere(Refusal::MissingIndex, at),
+        Some(i) => Ok(Place::Cell(i)),
+        None => Ok(Place::Absent(owner)),
     }
 }
 
 // The item of v of that index.
-fn index_place(words: &[u64], run: &[u64; 16], at: u16, index: u16, v: Value) -> Place
+fn index_place(
+    words: &[u64],
+    run: &[u64; 16],
+    at: u16,
+    index: u16,
+    v: Value,
+) -> Result<Place, Refused>
     requires { Fits run.now words.now }
     ensures { Placed result (λ σ. index_place σ at index (as_items v)) run.now words.now }
 {
-    match v {
-        Value::Vec(owner) => item_place(words, run, at, index, owner),
-        Value::Tuple(owner) => item_place(words, run, at, index, owner),
-        _ => Place::Nowhere(Refusal::ExpectedType, at),
+    let (Value::Vec(owner) | Value::Tuple(owner)) = v else {
+        return Err(Refused {
+            why: Refusal::ExpectedType,
+            place: at,
+        });
+    };
+    match item_at(words, run, owner, index) {
+        Some(i) => Ok(Place::Cell(i)),
+        None => Err(Refused {
+            why: Refusal::MissingIndex,
+            place: at,
+        }),
     }
 }
 
 // What stands at a place that is read: an absent field is 21.
-fn read_at(words: &[u64], run: &[u64; 16], at: u16, place: Place) -> Got
+fn read_at(words: &[u64], run: &[u64; 16], at: u16, place: Place) -> Result<Value, Refused>
     requires { Fits run.now words.now }
-    ensures { Gets result (λ σ. read_at σ at place) run.now words.now }
+    ensures { Gets result (λ σ. read_at σ at (Ok place)) run.now words.now }
 {
     match place {
-        Place::Binding(i) => Got::Is(bound_at(words, run, i)),
-        Place::Cell(i) => Got::Is(cell_at(words, run, i)),
-        Place::Absent(_) => Got::Not(Refusal::MissingField, at),
-        Place::Nowhere(why, place) => Got::Not(why, place),
+        Place::Binding(i) => Ok(bound_at(words, run, i)),
+        Place::Cell(i) => Ok(cell_at(words, run, i)),
+        Place::Absent(_) => Err(Refused {
+            why: Refusal::MissingField,
+            place: at,
+        }),
     }
 }
 
 // The target at node t, of fewer than `most` parts.
-fn read_most(image: &[u8], h: Header, words: &[u64], run: &[u64; 16], most: u8, t: u16) -> Got
+fn read_most(
+    image: &[u8],
+    h: Header,
+    words: &[u64],
+    run: &[u64; 16],
+    most: u8,
+    t: u16,
+) -> Result<Value, Refused>
     requires { IsTarget image.now h t × Fits run.now words.now }
     ensures { Gets result (λ σ. read_target image.now h σ most t) run.now words.now }
 {
     if most == 0 {
-        return Got::Not(Refusal::ExpectedType, t);
+        return Err(Refused {
+            why: Refusal::ExpectedType,
+            place: t,
+        });
     }
     let node = node_at(image, h, t as usize);
     if node.kind == 21 {
-        return read_at(words, run, t, name_place(words, run, t, node.tag));
+        let place = name_place(words, run, t, node.tag)?;
+        return read_at(words, run, t, place);
     }
-    let got = read_most(image, h, words, run, most - 1, node.a);
-    let Got::Is(v) = got else {
-        return got;
-    };
+    let v = read_most(image, h, words, run, most - 1, node.a)?;
     if node.kind == 22 {
-        return read_at(
-            words,
-            run,
-            node.a,
-            field_place(image, h, words, run, node.a, node.b, v),
-        );
+        let place = field_place(image, h, words, run, node.a, node.b, v)?;
+        return read_at(words, run, node.a, place);
     }
-    read_at(words, run, t, index_place(words, run, t, node.b, v))
+    let place = index_place(words, run, t, node.b, v)?;
+    read_at(words, run, t, place)
 }
 
 // What the target at node t gives.
-pub fn get_target(image: &[u8], h: Header, words: &[u64], run: &[u64; 16], t: u16) -> Got
+pub fn get_target(
+    image: &[u8],
+    h: Header,
+    words: &[u64],
+    run: &[u64; 16],
+    t: u16,
+) -> Result<Value, Refused>
     requires { IsTarget image.now h t × Fits run.now words.now }
     ensures { Gets result (λ σ. target_read image.now h σ t) run.now words.now }
 {
@@ -126,7 +141,13 @@ pub fn get_target(image: &[u8], h: Header, words: &[u64], run: &[u64; 16], t: u1
 }
 
 // Where the target at node t stands when it is written: what stands before its last part is read.
-fn target_place(image: &[u8], h: Header, words: &[u64], run: &[u64; 16], t: u16) -> Place
+fn target_place(
+    image: &[u8],
+    h: Header,
+    words: &[u64],
+    run: &[u64; 16],
+    t: u16,
+) -> Result<Place, Refused>
     requires { IsTarget image.now h t × Fits run.now words.now }
     ensures { Placed result (λ σ. target_place image.now h σ t) run.now words.now }
 {
@@ -134,15 +155,22 @@ fn target_place(image: &[u8], h: Header, words: &[u64], run: &[u64; 16], t: u16)
     if node.kind == 21 {
         return name_place(words, run, t, node.tag);
     }
-    match get_target(image, h, words, run, node.a) {
-        Got::Is(v) => {
-            if node.kind == 22 {
-                field_place(image, h, words, run, t, node.b, v)
-            } else {
-                index_place(words, run, t, node.b, v)
-            }
-        }
-        Got::Not(why, place) => Place::Nowhere(why, place),
+    let v = get_target(image, h, words, run, node.a)?;
+    if node.kind == 22 {
+        return field_place(image, h, words, run, t, node.b, v);
+    }
+    index_place(words, run, t, node.b, v)
+}
+
+// A value put at a place; a field that is absent has none.
+fn put_at(words: &mut [u64], run: &[u64; 16], place: Place, v: Value)
+    requires { Fits run.now words.old }
+    ensures { BecameWords (put_in place v) run.now words.old run.now words.new }
+{
+    match place {
+        Place::Binding(i) => rebind(words, run, i, v),
+        Place::Cell(i) => store_cell(words, run, i, v),
+        Place::Absent(_) => {}
     }
 }
 
@@ -155,15 +183,18 @@ fn set_field(
     t: u16,
     owner: u32,
     v: Value,
-) -> Written
+) -> Result<(), Refused>
     requires { IsTarget image.now h t × ((node_at image.now h t).kind ≡ 22) × Fits run.old words.old }
     ensures { WritesWords result (field_set image.now h t owner v) run.old words.old run.new words.new }
 {
     let node = node_at(image, h, t as usize);
     if enter_field(words, run, owner, key_of(image, h, node.b), v) {
-        return Written::Done;
+        return Ok(());
     }
-    Written::Refused(Refusal::Cells, t)
+    Err(Refused {
+        why: Refusal::Cells,
+        place: t,
+    })
 }
 
 // Any value put at the target t; a field that is absent is entered.
@@ -174,64 +205,39 @@ pub fn set_target(
     run: &mut [u64; 16],
     t: u16,
     v: Value,
-) -> Written
+) -> Result<(), Refused>
     requires { IsTarget image.now h t × Fits run.old words.old }
     ensures { WritesWords result (λ σ. target_set image.now h σ t v) run.old words.old run.new words.new }
 {
-    match target_place(image, h, words, run, t) {
-        Place::Binding(i) => {
-            rebind(words, run, i, v);
-            Written::Done
-        }
-        Place::Cell(i) => {
-            store_cell(words, run, i, v);
-            Written::Done
-        }
-        Place::Absent(owner) => set_field(image, h, words, run, t, owner, v),
-        Place::Nowhere(why, place) => Written::Refused(why, place),
+    let place = target_place(image, h, words, run, t)?;
+    if let Place::Absent(owner) = place {
+        return set_field(image, h, words, run, t, owner, v);
     }
+    put_at(words, run, place, v);
+    Ok(())
 }
 
 // What assign n puts in place of an old value.
-fn assign_value(n: u16, op: u8, old: Value, v: Value) -> Got
+fn assign_value(n: u16, op: u8, old: Value, v: Value) -> Result<Value, Refused>
     ensures { result ≡ assigned_value n op old v }
 {
+    let operands = Refused {
+        why: Refusal::Operands,
+        place: n,
+    };
     let Value::Signed(x) = old else {
-        return Got::Not(Refusal::Operands, n);
+        return Err(operands);
     };
     let Value::Signed(y) = v else {
-        return Got::Not(Refusal::Operands, n);
+        return Err(operands);
     };
     match assign_int(op, x, y) {
-        Arith::Value(z) => Got::Is(Value::Signed(z)),
-        Arith::Refused(why) => Got::Not(Refusal::Arithmetic(why), n),
-        Arith::Unlisted => Got::Not(Refusal::Operands, n),
-    }
-}
-
-fn assign_binding(words: &mut [u64], run: &[u64; 16], n: u16, op: u8, i: usize, v: Value) -> Written
-    requires { Fits run.now words.old }
-    ensures { WritesWords result (binding_assigned n op i v) run.now words.old run.now words.new }
-{
-    match assign_value(n, op, bound_at(words, run, i), v) {
-        Got::Is(new) => {
-            rebind(words, run, i, new);
-            Written::Done
-        }
-        Got::Not(why, place) => Written::Refused(why, place),
-    }
-}
-
-fn assign_cell(words: &mut [u64], run: &[u64; 16], n: u16, op: u8, i: usize, v: Value) -> Written
-    requires { Fits run.now words.old }
-    ensures { WritesWords result (cell_assigned n op i v) run.now words.old run.now words.new }
-{
-    match assign_value(n, op, cell_at(words, run, i), v) {
-        Got::Is(new) => {
-            store_cell(words, run, i, new);
-            Written::Done
-        }
-        Got::Not(why, place) => Written::Refused(why, place),
+        Ok(z) => Ok(Value::Signed(z)),
+        Err(OpError::Arithmetic(why)) => Err(Refused {
+            why: Refusal::Arithmetic(why),
+            place: n,
+        }),
+        Err(_) => Err(operands),
     }
 }
 
@@ -245,14 +251,13 @@ pub fn assign_target(
     op: u8,
     t: u16,
     v: Value,
-) -> Written
+) -> Result<(), Refused>
     requires { IsTarget image.now h t × Fits run.now words.old }
     ensures { WritesWords result (λ σ. target_assigned image.now h σ n op t v) run.now words.old run.now words.new }
 {
-    match target_place(image, h, words, run, t) {
-        Place::Binding(i) => assign_binding(words, run, n, op, i, v),
-        Place::Cell(i) => assign_cell(words, run, n, op, i, v),
-        Place::Absent(_) => Written::Refused(Refusal::MissingField, t),
-        Place::Nowhere(why, place) => Written::Refused(why, place),
-    }
+    let place = target_place(image, h, words, run, t)?;
+    let old = read_at(words, run, t, place)?;
+    let new = assign_value(n, op, old, v)?;
+    put_at(words, run, place, new);
+    Ok(())
 }
