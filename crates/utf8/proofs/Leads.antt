@@ -1,17 +1,18 @@
 -- What a first byte tells: proved of each range of bytes by one computed test, and put to use byte by byte. Assumes nothing.
 use mathlib.Core.Path.{◌≡◌, refl, sym, ap, ◌∙◌, subst}
-use mathlib.Core.Bool.{Bool, true, false, cond, ◌&&◌, and-eq-true_iff}
+use mathlib.Core.Bool.{Bool, true, false, cond, ◌&&◌, and-eq-true_iff, false≢true}
 use mathlib.Core.List.{List, [], ◌∷◌, Memᴰ}
 use Prim.Native.Nat.{ℕ, zero, suc, ◌+◌, ◌-◌, ◌≤◌, ◌<◌}
 use native.Mathlib.Decide.{dec_lt}
 use native.Mathlib.Numerals.{add-one}
 use native.Mathlib.Omega.{arith}
-use borrow.Author.Tests.{eqb-true}
-use lib.Dec.{eqb}
+use borrow.Author.Tests.{eqb-true, le-leb}
+use lib.Dec.{eqb, leb}
 use lib.ListN.{length, get_or, drop, replicate}
 use lib.Seq.{drop-cons, drop-drop}
+use Rattle.std.specs.Prelude.{Option, Some, None}
 use Rattle.utf8.specs.Utf8.{Range, tail, table, starts, row_of, char_len}
-use Rattle.utf8.specs.Leads.{lead_of}
+use Rattle.utf8.specs.Leads.{some_lead, lead_of}
 use Rattle.utf8.specs.declared.Lead.{Lead}
 use Rattle.utf8.proofs.Chars.{starts_cons, by_row}
 
@@ -34,25 +35,30 @@ at_each test from (suc count) p x l h =
         let e : from ≡ x = omega arith in
         subst (λ (y : ℕ). test y ≡ true) e t
 
-abbrev same : Lead → Lead → Bool
-same a b = eqb a.0 b.0 && (eqb a.1 b.1 && eqb a.2 b.2)
+abbrev same : Option Lead → Option Lead → Bool
+same None None = true
+same (Some a) (Some b) = eqb a.len b.len && (eqb a.low b.low && eqb a.high b.high)
+same _ _ = false
 
-same_lead : (a b : Lead) → same a b ≡ true → a ≡ b
-same_lead a b t =
-    let p = (and-eq-true_iff (eqb a.0 b.0) (eqb a.1 b.1 && eqb a.2 b.2)).0 t in
-    let q = (and-eq-true_iff (eqb a.1 b.1) (eqb a.2 b.2)).0 p.1 in
-    let len = eqb-true a.0 b.0 p.0 in
-    let low = eqb-true a.1 b.1 q.0 in
-    let high = eqb-true a.2 b.2 q.1 in
-    λ i. (len i, low i, high i)
+same_lead : (a b : Option Lead) → same a b ≡ true → a ≡ b
+same_lead None None t = refl
+same_lead (Some a) (Some b) t =
+    let p = (and-eq-true_iff (eqb a.len b.len) (eqb a.low b.low && eqb a.high b.high)).0 t in
+    let q = (and-eq-true_iff (eqb a.low b.low) (eqb a.high b.high)).0 p.1 in
+    let len = eqb-true a.len b.len p.0 in
+    let low = eqb-true a.low b.low q.0 in
+    let high = eqb-true a.high b.high q.1 in
+    λ i. Some (record { len = len i; low = low i; high = high i })
+same_lead None (Some b) t = absurd (false≢true t)
+same_lead (Some a) None t = absurd (false≢true t)
 
 -- the test that a first byte tells so much
-unfoldable pub tells : Lead → ℕ → Bool
+unfoldable pub tells : Option Lead → ℕ → Bool
 unfolding lead_of row_of table
 tells lead first = same lead (lead_of first)
 
 -- what each byte from low to high tells, by one test that antt computes
-pub lead_in : (low high : ℕ) {lead : Lead} → passes (tells lead) low (suc high - low) ≡ true → (first : ℕ) → (low ≤ first) × (first ≤ high)
+pub lead_in : (low high : ℕ) {lead : Option Lead} → passes (tells lead) low (suc high - low) ≡ true → (first : ℕ) → (low ≤ first) × (first ≤ high)
     → lead ≡ lead_of first
 unfolding tells
 lead_in low high {lead} p first h =
@@ -99,16 +105,29 @@ row_starts first rest =
 abbrev pub len_from : List ℕ → ℕ → ℕ → ℕ → Range → ℕ
 len_from bytes at len read next = cond (starts (following (len - read) next) (drop (at + read) bytes)) len 0
 
--- once the first byte is read
-pub lead_read : (bytes : List ℕ) (at : ℕ) {lead : Lead} → at < length bytes → lead ≡ lead_of (get_or bytes at 0)
-    → char_len (drop at bytes) ≡ len_from bytes at lead.0 1 (lead.1, lead.2)
-unfolding lead_of char_len
-lead_read bytes at h e =
+-- the character at a place, by the row of its first byte
+by_first : (bytes : List ℕ) (at : ℕ) → at < length bytes
+    → let row = row_of table (get_or bytes at 0) in char_len (drop at bytes) ≡ len_from bytes at (length row) 1 (get_or row 1 (0, 0))
+unfolding char_len
+by_first bytes at h =
     let first = get_or bytes at 0 in
     let rest = drop (at + 1) bytes in
     let b : drop at bytes ≡ first ∷ rest = rw (add-one, drop-cons bytes at 0) refl in
     ap char_len b ∙ ap (λ (t : Bool). cond t (length (row_of table first)) 0) (row_starts first rest)
-    ∙ ap (λ (lead : Lead). len_from bytes at lead.0 1 (lead.1, lead.2)) (sym e)
+
+-- once the first byte is read
+abbrev pub Read : List ℕ → ℕ → Option Lead → Type 0
+Read bytes at None = char_len (drop at bytes) ≡ 0
+Read bytes at (Some lead) = (1 ≤ lead.len) × (char_len (drop at bytes) ≡ len_from bytes at lead.len 1 (lead.low, lead.high))
+
+pub lead_read : (bytes : List ℕ) (at : ℕ) → at < length bytes → Read bytes at (lead_of (get_or bytes at 0))
+unfolding lead_of starts
+lead_read bytes at h = go (row_of table (get_or bytes at 0)) (by_first bytes at h)
+  where
+    go : (row : List Range) → char_len (drop at bytes) ≡ len_from bytes at (length row) 1 (get_or row 1 (0, 0))
+        → Read bytes at (cond (leb 1 (length row)) (some_lead (length row) (get_or row 1 (0, 0)).0 (get_or row 1 (0, 0)).1) None)
+    go [] e = e
+    go (range ∷ ranges) e = rw (le-leb 1 (suc (length ranges)) (omega arith)) (omega arith, e)
 
 module _ (bytes : List ℕ) (at len read : ℕ) (next : Range) where
   next_starts : read < len
