@@ -6,9 +6,9 @@ use mathlib.Core.List.{List, [], ◌∷◌, ◌++◌, map, map-append, append_as
 use mathlib.Core.Option.{some, none}
 use Prim.Native.Nat.{ℕ, zero, suc, ◌+◌, ◌-◌, ◌*◌, ◌/◌, ◌%◌, ◌≤◌, ◌<◌}
 use native.Mathlib.Nat.{suc-add}
-use native.Mathlib.Numerals.{add-one}
+use native.Mathlib.Numerals.{add-one, add-two, add-three}
 use native.Mathlib.Omega.{arith}
-use borrow.Author.Tests.{ne_eqb}
+use borrow.Author.Tests.{ne_eqb, le-leb, lt-leb}
 use lib.Dec.{eqb}
 use lib.ListN.{length, get_or, set, take, drop, length-append, length-drop, length-set, length-map, get_or-append, get_or-map}
 use lib.Seq.{sets, length-sets, length-take-le, drop-cons, ext_get_or, get_or-set_other, get_or-drop, get_or-append-add}
@@ -19,8 +19,8 @@ use Rattle.rules.specs.Store.{Cell, head as head_cell, item, entry}
 use Rattle.rules.specs.Building.{entered}
 use Rattle.stores.specs.View.{rec_at}
 use Rattle.stores.specs.Stores.{slot_in, pending_in, cell_in, cells_in}
-use Rattle.entries.specs.Entries.{key_in, keys_in, key_at, entries_of, EntryPut}
-use Rattle.texts.proofs.Parts.{sets_both}
+use Rattle.std.specs.Prelude.{Option, Some, None}
+use Rattle.entries.specs.Entries.{key_in, keys_in, key_at, entries_of, object_end, EntryPut}
 use Rattle.slots.proofs.Rows.{stores_2}
 use Rattle.stores.proofs.Views.{length-view, view_get, view_set, view_push, view_apart}
 use Rattle.entries.proofs.EntryLaws.{keys_of, nothing, key_from, found_within, entered_new, entered_known}
@@ -127,9 +127,9 @@ module _ (image : List ℕ) (h : Header) (key head end at : ℕ) (words : List �
   length_two = length-take-le 2 (drop (768 + 2 * at) words) (omega (arith, length-drop (768 + 2 * at) words))
 
   -- whatever is stored past the head
-  past_head : (r to : ℕ) (vs : List ℕ) → 1792 + 4 * (head + 1) ≤ to
-      → ((es : List (ℕ × Value)) → Stand es → r ≡ head + 1 + length (after es))
-      → ((es : List (ℕ × Value)) → Stand es → r ≤ 1024 → cells_in r (sets words to vs) ≡ cells_in (head + 1) words ++ entries_of head (after es))
+  past_head : (r : Option ℕ) (to : ℕ) (vs : List ℕ) → 1792 + 4 * (head + 1) ≤ to
+      → ((es : List (ℕ × Value)) → Stand es → r ≡ object_end (head + 1 + length (after es)))
+      → ((es : List (ℕ × Value)) → Stand es → (n : ℕ) → r ≡ Some n → cells_in n (sets words to vs) ≡ cells_in (head + 1) words ++ entries_of head (after es))
       → EntryPut image h head end key at r words (sets words to vs)
   unfolding cells_in
   past_head r to vs past ends entries =
@@ -141,6 +141,14 @@ module _ (image : List ℕ) (h : Header) (key head end at : ℕ) (words : List �
         ends = ends;
         entries = entries;
       }
+
+  -- the object ends at n
+  ends_at : (n : ℕ) → n ≤ 1024 → ((es : List (ℕ × Value)) → Stand es → n ≡ head + 1 + length (after es))
+      → (es : List (ℕ × Value)) → Stand es → Some n ≡ object_end (head + 1 + length (after es))
+  ends_at n most at_end es stand = ap (λ (b : Bool). cond b (Some n) None) (sym (le-leb n 1024 most)) ∙ ap object_end (at_end es stand)
+
+  only : (P : ℕ → Type 0) (n : ℕ) → P n → (k : ℕ) → ◌≡◌ {A = Option ℕ} (Some n) (Some k) → P k
+  only P n p k e = let same : n ≡ k = cc in subst P same p
 
   module _ (i : ℕ) (last : end ≤ 1024) (found : key_from image h key end words (head + 1) ≡ some i) where
     abbrev j : ℕ
@@ -164,20 +172,22 @@ module _ (image : List ℕ) (h : Header) (key head end at : ℕ) (words : List �
         let fourth : get_or (drop (length two) ws) 1 0 ≡ get_or ws 3 0 = get_or-drop (length two) ws 1 0 ∙ ap (λ (n : ℕ). get_or ws n 0) (omega (arith, length_two)) in
         entry_of two (drop (length two) ws) head (get_or es j nothing).0 length_two (rw third was.0) (rw third was.1) (rw third was.2) (fourth ∙ was.3)
 
-    pub put_known : EntryPut image h head end key at end words (sets words (1792 + 4 * i) two)
+    pub put_known : EntryPut image h head end key at (Some end) words (sets words (1792 + 4 * i) two)
     unfolding cells_in
     put_known =
         let within = found_within image h key head end i words found in
-        past_head end (1792 + 4 * i) two (omega arith)
-        (λ es stand. count head end words es stand ∙ ap (λ (n : ℕ). head + 1 + n) (sym (ap length (replaced es stand) ∙ length-set es j ((get_or es j nothing).0, pending_in two))))
-        (λ es stand most.
-        view_set cell_in 1792 4 end i words two within.1 (omega (arith, length_two)) (omega arith)
+        past_head (Some end) (1792 + 4 * i) two (omega arith)
+        (ends_at end last
+        (λ es stand. count head end words es stand ∙ ap (λ (n : ℕ). head + 1 + n) (sym (ap length (replaced es stand) ∙ length-set es j ((get_or es j nothing).0, pending_in two)))))
+        (λ es stand.
+        only (λ n. cells_in n (sets words (1792 + 4 * i) two) ≡ cells_in (head + 1) words ++ entries_of head (after es)) end
+        (view_set cell_in 1792 4 end i words two within.1 (omega (arith, length_two)) (omega arith)
         ∙ ap₂ (λ (cs : List Cell) (c : Cell). set cs i c) stand (replaced_cell es stand)
         ∙ ap (λ (n : ℕ). set (cells_in (head + 1) words ++ entries_of head es) n (entry head (get_or es j nothing).0 (pending_in two)))
         (number ∙ ap (λ (n : ℕ). n + j) (sym (length-view cell_in 1792 4 (head + 1) words)))
         ∙ set_append_right (cells_in (head + 1) words) (entries_of head es) j (entry head (get_or es j nothing).0 (pending_in two))
         ∙ ap (λ (cs : List Cell). cells_in (head + 1) words ++ cs)
-        (sym (ap (entries_of head) (replaced es stand) ∙ map_set (λ (e : ℕ × Value). entry head e.0 e.1) es j ((get_or es j nothing).0, pending_in two))))
+        (sym (ap (entries_of head) (replaced es stand) ∙ map_set (λ (e : ℕ × Value). entry head e.0 e.1) es j ((get_or es j nothing).0, pending_in two)))))
 
   module _ (missing : key_from image h key end words (head + 1) ≡ none) where
     appended : (es : List (ℕ × Value)) → Stand es → after es ≡ es ++ ((key, pending_in two) ∷ [])
@@ -188,25 +198,27 @@ module _ (image : List ℕ) (h : Header) (key head end at : ℕ) (words : List �
     one_more es stand =
         let more = ap length (appended es stand) ∙ length-append es ((key, pending_in two) ∷ []) in omega (arith, count head end words es stand)
 
-    pub put_full : 1024 ≤ end → end ≤ 1024 → EntryPut image h head end key at 1025 words words
-    put_full full last =
-        past_head 1025 (1792 + 4 * (head + 1)) [] (omega arith) (λ es stand. omega (arith, one_more es stand)) (λ es stand most. absurd (omega arith))
+    pub put_full : 1024 ≤ end → EntryPut image h head end key at None words words
+    put_full full =
+        past_head None (1792 + 4 * (head + 1)) [] (omega arith)
+        (λ es stand. ap (λ (b : Bool). cond b (Some (end + 1)) None) (sym (lt-leb (end + 1) 1024 (omega arith))) ∙ ap object_end (one_more es stand))
+        (λ es stand n e. cc)
 
     pub put_new : end < 1024
-        → EntryPut image h head end key at (end + 1) words (set (set (sets words (1792 + 4 * end) two) (1792 + 4 * end + 2) (4 * head + 2)) (1792 + 4 * end + 3) key)
+        → EntryPut image h head end key at (Some (end + 1)) words (set (set (sets words (1792 + 4 * end) two) (1792 + 4 * end + 2) (4 * head + 2)) (1792 + 4 * end + 3) key)
     unfolding cells_in
     put_new room =
         let to = 1792 + 4 * end in
         let own = (4 * head + 2) ∷ key ∷ [] in
         let stored : sets words to (two ++ own) ≡ set (set (sets words to two) (to + 2) (4 * head + 2)) (to + 3) key =
-        sets_both two own words to
-        ∙ ap (λ (n : ℕ). sets (sets words to two) (to + n) own) length_two
-        ∙ ap (λ (n : ℕ). set (set (sets words to two) (to + 2) (4 * head + 2)) n key) (omega arith) in
-        subst (EntryPut image h head end key at (end + 1) words) stored
-        (past_head (end + 1) to (two ++ own) (omega arith) one_more
-        (λ es stand most.
-        view_push cell_in 1792 4 end words (two ++ own) (length-append two own ∙ ap (λ (n : ℕ). n + 2) length_two) (omega arith)
+        rw (words_two at words (omega arith))
+        (sym (ap₂ (λ (j k : ℕ). set (set (sets words to (get_or words (768 + 2 * at) 0 ∷ get_or words (768 + 2 * at + 1) 0 ∷ [])) j (4 * head + 2)) k key) (add-two to) (add-three to))) in
+        subst (EntryPut image h head end key at (Some (end + 1)) words) stored
+        (past_head (Some (end + 1)) to (two ++ own) (omega arith) (ends_at (end + 1) (omega arith) one_more)
+        (λ es stand.
+        only (λ n. cells_in n (sets words to (two ++ own)) ≡ cells_in (head + 1) words ++ entries_of head (after es)) (end + 1)
+        (view_push cell_in 1792 4 end words (two ++ own) (length-append two own ∙ ap (λ (n : ℕ). n + 2) length_two) (omega arith)
         ∙ ap₂ (λ (cs : List Cell) (c : Cell). cs ++ (c ∷ [])) stand (entry_of two own head key length_two (ne_eqb ((4 * head + 2) % 4) 0 (λ e. omega (arith, e))) (ne_eqb ((4 * head + 2) % 4) 1 (λ e. omega (arith, e))) (omega arith) refl)
         ∙ append_assoc (cells_in (head + 1) words) (entries_of head es) (entry head key (pending_in two) ∷ [])
         ∙ ap (λ (cs : List Cell). cells_in (head + 1) words ++ cs)
-        (sym (ap (entries_of head) (appended es stand) ∙ map-append (λ (e : ℕ × Value). entry head e.0 e.1) es ((key, pending_in two) ∷ [])))))
+        (sym (ap (entries_of head) (appended es stand) ∙ map-append (λ (e : ℕ × Value). entry head e.0 e.1) es ((key, pending_in two) ∷ []))))))

@@ -9,22 +9,27 @@ ghost use Rattle.stores.specs.View.{rec_at};
 ghost use Rattle.entries.specs.Entries.{keys_in, key_at, EntryPut};
 
 use packed::layout::Header;
-use stores::Found;
+use stores::run::MOST_CELLS;
 use texts::same_part;
 
 // The cell that has a key, from cell `from` up to `to`, which are all entries.
-fn find_key(image: &[u8], h: Header, words: &[u64], from: usize, to: usize, key: u64) -> Found
+fn find_key(
+    image: &[u8],
+    h: Header,
+    words: &[u64],
+    from: usize,
+    to: usize,
+    key: u64,
+) -> Option<usize>
     requires { (size_of h ≤ length image.now) × (to ≤ 1024) × (8192 ≤ length words.now) }
     ensures { result ≡ found_of (key_at image.now h key from (drop from (keys_in to words.now))) }
 {
-    let mut i = from;
-    while i < to {
+    for i in from..to {
         if same_part(image, h, words[1795 + 4 * i], key) {
-            return Found::At(i);
+            return Some(i);
         }
-        i = i + 1;
     }
-    Found::Nothing
+    None
 }
 
 // The pending item `at` copied to the words at `to`, past all that is pending.
@@ -37,11 +42,8 @@ fn copy_pending(words: &mut [u64], at: usize, to: usize)
     words[to + 1] = words[from + 1];
 }
 
-// The cells that there are at most.
-const MOST_CELLS: usize = 1024;
-
-// The pending item `at` entered under a key: in place of the value that the key has, or in the next cell, `end`. Gives where the object then ends, past 1,024
-// where there is no cell left.
+// The pending item `at` entered under a key: in place of the value that the key has, or in the next cell, `end`. Gives where the object then ends; none where
+// there is no cell left.
 pub fn put_entry(
     image: &[u8],
     h: Header,
@@ -50,21 +52,20 @@ pub fn put_entry(
     end: usize,
     key: u64,
     at: usize,
-) -> usize
+) -> Option<usize>
     requires { (size_of h ≤ length image.now) × (head < end) × (end ≤ 1024) × (at < 512) × (8192 ≤ length words.old) }
     ensures { EntryPut image.now h head end key at result words.old words.new }
 {
-    let found = find_key(image, h, words, head + 1, end, key);
-    if let Found::At(i) = found {
+    if let Some(i) = find_key(image, h, words, head + 1, end, key) {
         copy_pending(words, at, 1792 + 4 * i);
-        return end;
+        return Some(end);
     }
-    if MOST_CELLS <= end {
-        return 1025;
+    if MOST_CELLS <= end as u64 {
+        return None;
     }
     let to = 1792 + 4 * end;
     copy_pending(words, at, to);
     words[to + 2] = 4 * head as u64 + 2;
     words[to + 3] = key;
-    end + 1
+    Some(end + 1)
 }
