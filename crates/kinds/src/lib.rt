@@ -5,7 +5,7 @@ ghost use Rattle.std.specs.Prelude.{◌≡◌};
 ghost use Rattle.kinds.specs.Kinds.{is_within, is_of, row as row_with, row_of};
 
 // The kinds that a reference may go to.
-#[derive(Clone, Copy)]
+#[derive(Clone, Copy, Debug, PartialEq, Eq)]
 pub enum Class {
     Expression,
     Component,
@@ -17,7 +17,7 @@ pub enum Class {
 }
 
 // What a field holds.
-#[derive(Clone, Copy)]
+#[derive(Clone, Copy, Debug, PartialEq, Eq)]
 pub enum Role {
     // nothing: it is 0
     Unlisted,
@@ -29,36 +29,28 @@ pub enum Role {
     Text,
     // a function
     Function,
-    // a node: whether it is needed, or may be 0; whether it heads a chain; its class
+    // a node: whether it is needed, or may be 0; whether it heads a chain; its class (by place and not by name: the constants
+    // below name what they stand for, and are the only ones that are made)
     Node(bool, bool, Class),
 }
 
 pub fn is_expression(kind: u8) -> bool
     ensures { result ≡ is_within 1 16 kind }
 {
-    match kind {
-        1..=16 => true,
-        _ => false,
-    }
+    matches!(kind, 1..=16)
 }
 
 fn is_target(kind: u8) -> bool
     ensures { result ≡ is_within 21 23 kind }
 {
-    match kind {
-        21..=23 => true,
-        _ => false,
-    }
+    matches!(kind, 21..=23)
 }
 
 // The kinds of target that have a target before them: a field and an index.
 pub fn is_part(kind: u8) -> bool
     ensures { result ≡ is_within 22 23 kind }
 {
-    match kind {
-        22..=23 => true,
-        _ => false,
-    }
+    matches!(kind, 22..=23)
 }
 
 pub fn is_of(class: Class, kind: u8) -> bool
@@ -66,25 +58,17 @@ pub fn is_of(class: Class, kind: u8) -> bool
 {
     match class {
         Class::Expression => is_expression(kind),
-        Class::Component => if kind == 17 {
-            true
-        } else {
-            is_expression(kind)
-        },
+        Class::Component => kind == 17 || is_expression(kind),
         Class::Arm => kind == 18,
         Class::Entry => kind == 19,
         Class::Scope => kind == 1,
-        Class::Condition => if kind == 20 {
-            true
-        } else {
-            is_expression(kind)
-        },
+        Class::Condition => kind == 20 || is_expression(kind),
         Class::Target => is_target(kind),
     }
 }
 
 // A line of the table: how many ops the kind has, and what tag, a and b hold.
-#[derive(Clone, Copy)]
+#[derive(Clone, Copy, Debug, PartialEq, Eq)]
 pub struct KindRow {
     pub ops: u8,
     pub tag: Role,
@@ -135,6 +119,7 @@ fn row(ops: u8, tag: Role, a: Role, b: Role) -> KindRow
 }
 
 // The line of each kind; a kind that 01 does not list has no op.
+#[tactic(auto, unfolding(crate::specs::Kinds::row_of, crate::specs::Kinds::table))]
 pub fn row_of(kind: u8) -> KindRow
     ensures { result ≡ row_of kind }
 {
