@@ -10,6 +10,15 @@ ghost use Rattle.records.specs.Records.{node_good};
 use kinds::{Class, Role, is_expression, is_of, is_part, row_of};
 use packed::layout::{Header, Node, function_at, node_at};
 
+// What the passes over the image leave for each node: how often it is named, how often as a body, and the kind of the node in
+// whose chain it stands.
+#[derive(Drop)]
+struct Findings {
+    names: [u8; 4096],
+    bodies: [u8; 4096],
+    chains: [u8; 4096],
+}
+
 // Where a count stops, so that none wraps to 1.
 const MOST_COUNTED: u8 = 255;
 
@@ -167,36 +176,23 @@ fn is_named_well(h: Header, n: u16, kind: u8, times: u8, as_body: u8) -> bool
 const MOST_PARTS: u8 = 64;
 
 #[tactic(auto, unfolding(crate::specs::Tree::node_right))]
-fn node_right(
-    image: &[u8],
-    h: Header,
-    n: u16,
-    names: &[u8; 4096],
-    bodies: &[u8; 4096],
-    chains: &[u8; 4096],
-) -> bool
-    requires { (1 ≤ n) × (n ≤ h.nodes) × (size_of h ≤ length image.now) × GoodNodes image.now h × Surveyed image.now h names.now bodies.now chains.now }
+fn node_right(image: &[u8], h: Header, n: u16, found: &Findings) -> bool
+    requires { (1 ≤ n) × (n ≤ h.nodes) × (size_of h ≤ length image.now) × GoodNodes image.now h × Surveyed image.now h found.now.names found.now.bodies found.now.chains }
     ensures { result ≡ node_right image.now h n (node_at image.now h n) }
 {
     let at = usize::from(n);
     let d = node_at(image, h, at);
-    names_well(image, h, n, d, chains[at])
+    names_well(image, h, n, d, found.chains[at])
         && parts(image, h, n) <= MOST_PARTS
-        && is_named_well(h, n, d.kind, names[at], bodies[at])
+        && is_named_well(h, n, d.kind, found.names[at], found.bodies[at])
 }
 
-fn first_wrong(
-    image: &[u8],
-    h: Header,
-    names: &[u8; 4096],
-    bodies: &[u8; 4096],
-    chains: &[u8; 4096],
-) -> Option<usize>
-    requires { (size_of h ≤ length image.now) × GoodNodes image.now h × Surveyed image.now h names.now bodies.now chains.now }
+fn first_wrong(image: &[u8], h: Header, found: &Findings) -> Option<usize>
+    requires { (size_of h ≤ length image.now) × GoodNodes image.now h × Surveyed image.now h found.now.names found.now.bodies found.now.chains }
     ensures { result ≡ lowest_fault image.now h }
 {
     for n in 1..=h.nodes {
-        if !node_right(image, h, n, names, bodies, chains) {
+        if !node_right(image, h, n, found) {
             return Some(usize::from(n));
         }
     }
@@ -208,11 +204,13 @@ pub fn lowest_fault(image: &[u8], h: Header) -> Option<usize>
     requires { (h.root < 4096) × (size_of h ≤ length image.now) × GoodNodes image.now h }
     ensures { result ≡ lowest_fault image.now h }
 {
-    let mut names = [0u8; 4096];
-    let mut bodies = [0u8; 4096];
-    let mut chains = [0u8; 4096];
-    bump(&mut names, h.root);
-    count_bodies(image, h, &mut names, &mut bodies);
-    survey(image, h, &mut names, &mut chains);
-    first_wrong(image, h, &names, &bodies, &chains)
+    let mut found = Findings {
+        names: [0; 4096],
+        bodies: [0; 4096],
+        chains: [0; 4096],
+    };
+    bump(&mut found.names, h.root);
+    count_bodies(image, h, &mut found.names, &mut found.bodies);
+    survey(image, h, &mut found.names, &mut found.chains);
+    first_wrong(image, h, &found)
 }
