@@ -33,7 +33,7 @@ pub fn checked_div(x: i64, y: i64) -> Result<i64, ArithRefusal>
 fn shift_operand(y: i64) -> Result<i64, ArithRefusal>
     ensures { result ≡ shift_of y y }
 {
-    if y < 0 || y > 4294967295 {
+    if u32::try_from(y).is_err() {
         return Err(ArithRefusal::ShiftOperand);
     }
     if y >= 64 {

@@ -91,7 +91,8 @@ pub fn binary_int(op: u8, x: i64, y: i64) -> Result<Number, OpError>
     }
 }
 
-// The binary operation `op` on two float operands. Shifts of floats are not const.
+// The binary operation `op` on two float operands. Shifts of floats are not const. The comparisons stand here and above, since one function
+// over PartialOrd would go by `partial_cmp`, of which each answer had to be told from an ordering, with a law for each op and type.
 #[tactic(auto, unfolding(crate::specs::Floats::binary_float_of))]
 pub fn binary_float(op: u8, x: f64, y: f64) -> Result<Number, OpError>
     ensures { result ≡ binary_float_of op x y }

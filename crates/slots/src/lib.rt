@@ -41,23 +41,25 @@ fn low(payload: u64) -> u32
     (payload % 4294967296) as u32
 }
 
-pub fn slot_of(v: Value) -> Slot
-    ensures { (result ≡ slot_of v) × (value_of (slot_of v).kind (slot_of v).payload ≡ v) }
-{
-    let (kind, payload) = match v {
-        Value::Unit => (0, 0),
-        Value::Bool(b) => (1, u64::from(b)),
-        Value::Unsigned(x) => (2, x),
-        Value::Signed(x) => (3, int_to_word(x)),
-        Value::Float(x) => (4, float_to_word(x)),
-        Value::Char(c) => (5, u64::from(c)),
-        Value::Text(start, length) => (6, part(start, length)),
-        Value::Bytes(start, length) => (7, part(start, length)),
-        Value::Vec(c) => (8, u64::from(c)),
-        Value::Tuple(c) => (9, u64::from(c)),
-        Value::Object(c) => (10, u64::from(c)),
-    };
-    Slot { kind, payload }
+impl From<Value> for Slot {
+    ghost from_gives = { λ v slot. (slot ≡ slot_of v) × (value_of (slot_of v).kind (slot_of v).payload ≡ v) };
+
+    fn from(v: Value) -> Slot {
+        let (kind, payload) = match v {
+            Value::Unit => (0, 0),
+            Value::Bool(b) => (1, u64::from(b)),
+            Value::Unsigned(x) => (2, x),
+            Value::Signed(x) => (3, int_to_word(x)),
+            Value::Float(x) => (4, float_to_word(x)),
+            Value::Char(c) => (5, u64::from(c)),
+            Value::Text(start, length) => (6, part(start, length)),
+            Value::Bytes(start, length) => (7, part(start, length)),
+            Value::Vec(c) => (8, u64::from(c)),
+            Value::Tuple(c) => (9, u64::from(c)),
+            Value::Object(c) => (10, u64::from(c)),
+        };
+        Slot { kind, payload }
+    }
 }
 
 // The value of a literal's kind and payload.
@@ -95,7 +97,7 @@ pub fn put_slot(words: &mut [u64], at: usize, v: Value)
     requires { at + 2 ≤ length words.old }
     ensures { Put v at words.old words.new }
 {
-    let slot = slot_of(v);
+    let slot = Slot::from(v);
     words[at] = slot.payload;
     words[at + 1] = slot.kind;
 }

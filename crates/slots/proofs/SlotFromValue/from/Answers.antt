@@ -5,7 +5,7 @@ use Rattle.rules.specs.declared.Value.TheVariants.{Vec, Tuple, Object}
 use Rattle.rules.specs.Building.{literal_of}
 use Rattle.slots.specs.Slot.{value_of}
 use Rattle.slots.proofs.Slots.{bit_is, bool_back, signed_back, float_back, char_back, text_back, bytes_back, handle_back}
-use Rattle.slots.proofs.slot_of.Goals as goal
+use Rattle.slots.proofs.SlotFromValue.from.Goals as goal
 
 pub returns-in-Unit : goal.returns-in-Unit
 unfolding value_of literal_of
