@@ -5,14 +5,14 @@ ghost use Rattle.std.specs.Prelude.{◌≡◌, ltb, ◌+◌, ◌-◌, ◌*◌, �
 ghost use Rattle.fields.specs.Field.{field_of, is_within, read_of, Put, Wrote, Mixed};
 
 // Shifts and masks by their meaning in numbers, so that no proof above speaks of bits.
-pub fn up(x: u64, k: u32) -> u64
+fn up(x: u64, k: u32) -> u64
     requires { (k < 64) × (x * 2 ^ k < 2 ^ 64) }
     ensures { result ≡ x * 2 ^ k }
 {
     x << k
 }
 
-pub fn down(x: u64, k: u32) -> u64
+fn down(x: u64, k: u32) -> u64
     requires { k < 64 }
     ensures { result ≡ x / 2 ^ k }
 {
