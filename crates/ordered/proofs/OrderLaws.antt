@@ -13,8 +13,7 @@ use lib.ListN.{length, get_or}
 use Rattle.packed.specs.declared.layout.Header.{Header}
 use Rattle.rules.specs.Store.{Cell, head}
 use Rattle.rules.specs.Output.{ascending}
-use Rattle.stores.specs.declared.Found.{Found}
-use Rattle.stores.specs.declared.Found.TheVariants.{At, Nothing}
+use Rattle.std.specs.Prelude.{Option as Found, Some, None}
 use Rattle.stores.specs.Finding.{found_of}
 use Rattle.ordered.specs.Ordered.{owns, key_text, placed, sorted_from, sorted_cells, precedes, is_after, next_of, first_of, better_of}
 use Rattle.ordered.proofs.Ascending.{ascending_total, ascending_trans, ascending_self}
@@ -157,7 +156,7 @@ module _ (image : List ℕ) (h : Header) (cells : List Cell) where
   -- ---- the next of them
 
   -- in any list in that order, the next after one of its cells is the one that follows
-  next_in : (front : List ℕ) (i : ℕ) (rest : List ℕ) → Sorted (front ++ (i ∷ rest)) → next_of image h cells (At i) (front ++ (i ∷ rest)) ≡ head_of rest
+  next_in : (front : List ℕ) (i : ℕ) (rest : List ℕ) → Sorted (front ++ (i ∷ rest)) → next_of image h cells (Some i) (front ++ (i ∷ rest)) ≡ head_of rest
   unfolding next_of
   next_in [] i [] s = rw (not_itself i)
   next_in [] i (j ∷ js) s = rw (not_itself i, s.0 j (Memᴰ.head refl))
@@ -165,30 +164,30 @@ module _ (image : List ℕ) (h : Header) (cells : List Cell) where
       rw (not_both j i (s.0 i (Memᴰ.append_right front (Memᴰ.head refl)))) (next_in front i rest s.1)
 
   pub next_follows : (owner i : ℕ) (front rest : List ℕ) → sorted_cells image h owner cells ≡ front ++ (i ∷ rest)
-      → next_of image h cells (At i) (sorted_cells image h owner cells) ≡ head_of rest
+      → next_of image h cells (Some i) (sorted_cells image h owner cells) ≡ head_of rest
   next_follows owner i front rest e =
-      ap (next_of image h cells (At i)) e ∙ next_in front i rest (subst Sorted e (sorted owner 0 (length cells)))
+      ap (next_of image h cells (Some i)) e ∙ next_in front i rest (subst Sorted e (sorted owner 0 (length cells)))
 
-  pub next_first : (owner : ℕ) → next_of image h cells Nothing (sorted_cells image h owner cells) ≡ head_of (sorted_cells image h owner cells)
+  pub next_first : (owner : ℕ) → next_of image h cells None (sorted_cells image h owner cells) ≡ head_of (sorted_cells image h owner cells)
   unfolding next_of
   next_first owner = go (sorted_cells image h owner cells)
     where
-      go : (js : List ℕ) → next_of image h cells Nothing js ≡ head_of js
+      go : (js : List ℕ) → next_of image h cells None js ≡ head_of js
       go [] = refl
       go (j ∷ js) = refl
 
   -- ---- one cell more to choose from
 
-  module _ (last : Found) where
-    abbrev next : List ℕ → Found
+  module _ (last : Found ℕ) where
+    abbrev next : List ℕ → Found ℕ
     next js = found_of (next_of image h cells last js)
 
-    first_of_all : (i : ℕ) (js : List ℕ) → Above i js → first_of image h cells i (next js) ≡ At i
+    first_of_all : (i : ℕ) (js : List ℕ) → Above i js → first_of image h cells i (next js) ≡ Some i
     unfolding next_of
     first_of_all i [] above = refl
     first_of_all i (j ∷ js) above = go (is_after image h cells last j) (first_of_all i js (λ k m. above k (Memᴰ.tail m)))
       where
-        go : (b : Bool) → first_of image h cells i (next js) ≡ At i → first_of image h cells i (found_of (cond b (some j) (next_of image h cells last js))) ≡ At i
+        go : (b : Bool) → first_of image h cells i (next js) ≡ Some i → first_of image h cells i (found_of (cond b (some j) (next_of image h cells last js))) ≡ Some i
         go true rest = rw (above j (Memᴰ.head refl))
         go false rest = rest
 
@@ -197,7 +196,7 @@ module _ (image : List ℕ) (h : Header) (cells : List Cell) where
     unfolding next_of placed
     next_placed i [] more s = go (is_after image h cells last i)
       where
-        go : (b : Bool) → found_of (cond b (some i) none) ≡ cond b (At i) Nothing
+        go : (b : Bool) → found_of (cond b (some i) none) ≡ cond b (Some i) None
         go true = refl
         go false = refl
     next_placed i (j ∷ js) more s = go (ordered i j) refl (next_placed i js (λ k m. more k (Memᴰ.tail m)) s.1)
@@ -213,7 +212,7 @@ module _ (image : List ℕ) (h : Header) (cells : List Cell) where
             let first : Above i (j ∷ js) = λ k m. ⊎_elim (λ q. subst (First i) (sym q) (below ∙ e)) (λ n. first_trans i j k (below ∙ e) (s.0 k n)) (Memᴰ.cases_cons m) in
             rw (first_of_all i (j ∷ js) first) (here (is_after image h cells last i))
           where
-            here : (c : Bool) → found_of (cond c (some i) (next_of image h cells last (j ∷ js))) ≡ cond c (At i) (next (j ∷ js))
+            here : (c : Bool) → found_of (cond c (some i) (next_of image h cells last (j ∷ js))) ≡ cond c (Some i) (next (j ∷ js))
             here true = refl
             here false = refl
         go false e rest = there (is_after image h cells last j)
@@ -222,7 +221,7 @@ module _ (image : List ℕ) (h : Header) (cells : List Cell) where
                 ≡ cond (is_after image h cells last i) (first_of image h cells i (found_of (cond c (some j) (next_of image h cells last js)))) (found_of (cond c (some j) (next_of image h cells last js)))
             there true = rw (below ∙ e) (same (is_after image h cells last i))
               where
-                same : (d : Bool) → At j ≡ cond d (At j) (At j)
+                same : (d : Bool) → Some j ≡ cond d (Some j) (Some j)
                 same true = refl
                 same false = refl
             there false = rest

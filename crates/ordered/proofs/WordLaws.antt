@@ -10,8 +10,7 @@ use lib.ListN.{length, get_or, get_or-eq_default}
 use Rattle.packed.specs.declared.layout.Header.{Header}
 use Rattle.rules.specs.Store.{Cell, head, part_text}
 use Rattle.rules.specs.Output.{ascending, sorted_entries}
-use Rattle.stores.specs.declared.Found.{Found}
-use Rattle.stores.specs.declared.Found.TheVariants.{At, Nothing}
+use Rattle.std.specs.Prelude.{Option as Found, Some, None}
 use Rattle.stores.specs.Finding.{found_of}
 use Rattle.stores.specs.View.{rec_at}
 use Rattle.stores.specs.Stores.{cell_in, cells_of, store_of}
@@ -71,26 +70,26 @@ module _ (image : List ℕ) (h : Header) (run words : List ℕ) where
     precedes_down above e =
         record { is = λ bytes. ap not (e ∙ keys_ordered q p bytes) ∙ sym (downward image h (store_of run words bytes).cells i j above) }
 
-  pub after_none : (j : ℕ) → IsAfter true image h run words Nothing j
+  pub after_none : (j : ℕ) → IsAfter true image h run words None j
   after_none j = record { is = λ bytes. refl }
 
-  pub after_one : (r : Bool) (i j : ℕ) → Precedes r image h run words i j → IsAfter r image h run words (At i) j
+  pub after_one : (r : Bool) (i j : ℕ) → Precedes r image h run words i j → IsAfter r image h run words (Some i) j
   after_one r i j p = record { is = λ bytes. p.is bytes }
 
-  pub first_alone : (i : ℕ) → FirstOf (At i) image h run words i Nothing
+  pub first_alone : (i : ℕ) → FirstOf (Some i) image h run words i None
   first_alone i = record { is = λ bytes. refl }
 
-  pub first_here : (i j : ℕ) → Precedes true image h run words i j → FirstOf (At i) image h run words i (At j)
-  first_here i j p = record { is = λ bytes. ap (λ (b : Bool). cond b (At i) (At j)) (p.is bytes) }
+  pub first_here : (i j : ℕ) → Precedes true image h run words i j → FirstOf (Some i) image h run words i (Some j)
+  first_here i j p = record { is = λ bytes. ap (λ (b : Bool). cond b (Some i) (Some j)) (p.is bytes) }
 
-  pub first_there : (i j : ℕ) → Precedes false image h run words i j → FirstOf (At j) image h run words i (At j)
-  first_there i j p = record { is = λ bytes. ap (λ (b : Bool). cond b (At i) (At j)) (p.is bytes) }
+  pub first_there : (i j : ℕ) → Precedes false image h run words i j → FirstOf (Some j) image h run words i (Some j)
+  first_there i j p = record { is = λ bytes. ap (λ (b : Bool). cond b (Some i) (Some j)) (p.is bytes) }
 
   -- ---- the next entry
 
-  module _ (owner : ℕ) (last : Found) where
-    module _ (i : ℕ) (best : Found) (below : i < cells_of run) where
-      better : (r : Found) (b : Bool) → b ≡ is_owned owner words i
+  module _ (owner : ℕ) (last : Found ℕ) where
+    module _ (i : ℕ) (best : Found ℕ) (below : i < cells_of run) where
+      better : (r : Found ℕ) (b : Bool) → b ≡ is_owned owner words i
           → ((bytes : List ℕ) → r ≡ cond b (cond (is_after image h (store_of run words bytes).cells last i) (first_of image h (store_of run words bytes).cells i best) best) best)
           → BetterOf r image h run words owner last i best
       better r b e is =
@@ -108,24 +107,24 @@ module _ (image : List ℕ) (h : Header) (run words : List ℕ) where
       better_before e after =
           better best true e (λ bytes. ap (λ (c : Bool). cond c (first_of image h (store_of run words bytes).cells i best) best) (after.is bytes))
 
-      pub better_first : (r : Found) → true ≡ is_owned owner words i → IsAfter true image h run words last i → FirstOf r image h run words i best
+      pub better_first : (r : Found ℕ) → true ≡ is_owned owner words i → IsAfter true image h run words last i → FirstOf r image h run words i best
           → BetterOf r image h run words owner last i best
       better_first r e after first =
           better r true e
           (λ bytes. first.is bytes ∙ ap (λ (c : Bool). cond c (first_of image h (store_of run words bytes).cells i best) best) (after.is bytes))
 
     -- the next of the cells from i on
-    pub record NextFrom (i : ℕ) (best : Found) : Type 0 where
+    pub record NextFrom (i : ℕ) (best : Found ℕ) : Type 0 where
       pub is : (bytes : List ℕ)
           → best ≡ found_of (next_of image h (store_of run words bytes).cells last (sorted_from image h (store_of run words bytes).cells owner i (cells_of run - i)))
 
-    pub next_start : NextFrom (cells_of run) Nothing
+    pub next_start : NextFrom (cells_of run) None
     unfolding sorted_from next_of
     next_start =
         let none : cells_of run - cells_of run ≡ 0 = omega arith in
         record { is = λ bytes. rw none }
 
-    pub next_turn : (i : ℕ) (best r : Found) → 0 < i → i ≤ cells_of run → NextFrom i best → BetterOf r image h run words owner last (i - 1) best → NextFrom (i - 1) r
+    pub next_turn : (i : ℕ) (best r : Found ℕ) → 0 < i → i ≤ cells_of run → NextFrom i best → BetterOf r image h run words owner last (i - 1) best → NextFrom (i - 1) r
     next_turn i best r more most before turn =
         let same : suc (i - 1) ≡ i = omega arith in
         let count : suc (cells_of run - i) ≡ cells_of run - (i - 1) = omega arith in
@@ -139,7 +138,7 @@ module _ (image : List ℕ) (h : Header) (run words : List ℕ) where
               ∙ ap (λ (n : ℕ). found_of (next_of image h cells last (sorted_from image h cells owner (i - 1) n))) count;
         }
 
-    pub next_done : (i : ℕ) (best : Found) → i ≤ 0 → NextFrom i best → NextEntry best image h run words owner last
+    pub next_done : (i : ℕ) (best : Found ℕ) → i ≤ 0 → NextFrom i best → NextEntry best image h run words owner last
     next_done i best none before =
         let first : i ≡ 0 = omega arith in
         record {
@@ -150,11 +149,11 @@ module _ (image : List ℕ) (h : Header) (run words : List ℕ) where
         }
 
   -- the answer is the first of the sorted cells, or the one that follows the last
-  pub answer_first : (owner : ℕ) (r : Found) (bytes : List ℕ) → NextEntry r image h run words owner Nothing
+  pub answer_first : (owner : ℕ) (r : Found ℕ) (bytes : List ℕ) → NextEntry r image h run words owner None
       → r ≡ found_of (head_of (sorted_cells image h owner (store_of run words bytes).cells))
   answer_first owner r bytes next = next.is bytes ∙ ap found_of (next_first image h (store_of run words bytes).cells owner)
 
-  pub answer_next : (owner : ℕ) (r : Found) (i : ℕ) (front rest bytes : List ℕ) → NextEntry r image h run words owner (At i)
+  pub answer_next : (owner : ℕ) (r : Found ℕ) (i : ℕ) (front rest bytes : List ℕ) → NextEntry r image h run words owner (Some i)
       → sorted_cells image h owner (store_of run words bytes).cells ≡ front ++ (i ∷ rest) → r ≡ found_of (head_of rest)
   answer_next owner r i front rest bytes next e = next.is bytes ∙ ap found_of (next_follows image h (store_of run words bytes).cells owner i front rest e)
 

@@ -1,11 +1,9 @@
 -- An object's entries by ascending key, as numbers of cells (01 'Output'); the one that is written next.
-use Rattle.std.specs.Prelude.{ℕ, zero, suc, ◌≤◌, ◌≡◌, Bool, true, false, not, cond, List, [], ◌∷◌, ltb, eqb, length, get_or}
-use Rattle.std.proofs.Math.Option.{Option, some, none}
+use Rattle.std.specs.Prelude.{ℕ, Option, Some, None, zero, suc, ◌≤◌, ◌≡◌, Bool, true, false, not, cond, List, [], ◌∷◌, ltb, eqb, length, get_or}
+use Rattle.std.proofs.Math.Option.{Option as Next, some, none}
 use Rattle.packed.specs.declared.layout.Header.{Header}
 use Rattle.rules.specs.Store.{Cell, head, item, entry, part_text}
 use Rattle.rules.specs.Output.{ascending, sorted_entries}
-use Rattle.stores.specs.declared.Found.{Found}
-use Rattle.stores.specs.declared.Found.TheVariants.{At, Nothing}
 use Rattle.stores.specs.Finding.{found_of}
 use Rattle.stores.specs.View.{rec_at}
 use Rattle.stores.specs.Stores.{store_of, cell_in}
@@ -44,22 +42,22 @@ module _ (image : List ℕ) (h : Header) (cells : List Cell) where
   unfoldable pub precedes : ℕ → ℕ → Bool
   precedes i j = cond (ltb i j) (ascending (key_text i) (key_text j)) (not (ascending (key_text j) (key_text i)))
 
-  abbrev pub is_after : Found → ℕ → Bool
-  is_after Nothing j = true
-  is_after (At i) j = precedes i j
+  abbrev pub is_after : Option ℕ → ℕ → Bool
+  is_after None j = true
+  is_after (Some i) j = precedes i j
 
   -- the first of these cells that is written after the last one
-  unfoldable pub next_of : Found → List ℕ → Option ℕ
+  unfoldable pub next_of : Option ℕ → List ℕ → Next ℕ
   next_of last [] = none
   next_of last (j ∷ js) = cond (is_after last j) (some j) (next_of last js)
 
   -- of two cells the one that is written first
-  abbrev pub first_of : ℕ → Found → Found
-  first_of i Nothing = At i
-  first_of i (At j) = cond (precedes i j) (At i) (At j)
+  abbrev pub first_of : ℕ → Option ℕ → Option ℕ
+  first_of i None = Some i
+  first_of i (Some j) = cond (precedes i j) (Some i) (Some j)
 
   -- the best so far with cell i looked at as well
-  abbrev pub better_of : ℕ → Found → ℕ → Found → Found
+  abbrev pub better_of : ℕ → Option ℕ → ℕ → Option ℕ → Option ℕ
   better_of owner last i best = cond (owns owner (get_or cells i (head 0))) (cond (is_after last i) (first_of i best) best) best
 
 -- "entries by ascending key bytes"
@@ -78,15 +76,15 @@ pub record KeyAt (r : ℕ) (run words : List ℕ) (i : ℕ) : Type 0 where
 pub record Precedes (r : Bool) (image : List ℕ) (h : Header) (run words : List ℕ) (i j : ℕ) : Type 0 where
   pub is : (bytes : List ℕ) → r ≡ precedes image h (store_of run words bytes).cells i j
 
-pub record IsAfter (r : Bool) (image : List ℕ) (h : Header) (run words : List ℕ) (last : Found) (j : ℕ) : Type 0 where
+pub record IsAfter (r : Bool) (image : List ℕ) (h : Header) (run words : List ℕ) (last : Option ℕ) (j : ℕ) : Type 0 where
   pub is : (bytes : List ℕ) → r ≡ is_after image h (store_of run words bytes).cells last j
 
-pub record FirstOf (r : Found) (image : List ℕ) (h : Header) (run words : List ℕ) (i : ℕ) (best : Found) : Type 0 where
+pub record FirstOf (r : Option ℕ) (image : List ℕ) (h : Header) (run words : List ℕ) (i : ℕ) (best : Option ℕ) : Type 0 where
   pub is : (bytes : List ℕ) → r ≡ first_of image h (store_of run words bytes).cells i best
 
-pub record BetterOf (r : Found) (image : List ℕ) (h : Header) (run words : List ℕ) (owner : ℕ) (last : Found) (i : ℕ) (best : Found) : Type 0 where
+pub record BetterOf (r : Option ℕ) (image : List ℕ) (h : Header) (run words : List ℕ) (owner : ℕ) (last : Option ℕ) (i : ℕ) (best : Option ℕ) : Type 0 where
   pub is : (bytes : List ℕ) → r ≡ better_of image h (store_of run words bytes).cells owner last i best
 
-pub record NextEntry (r : Found) (image : List ℕ) (h : Header) (run words : List ℕ) (owner : ℕ) (last : Found) : Type 0 where
+pub record NextEntry (r : Option ℕ) (image : List ℕ) (h : Header) (run words : List ℕ) (owner : ℕ) (last : Option ℕ) : Type 0 where
   pub is : (bytes : List ℕ)
       → r ≡ found_of (next_of image h (store_of run words bytes).cells last (sorted_cells image h owner (store_of run words bytes).cells))

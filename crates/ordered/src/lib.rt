@@ -7,7 +7,6 @@ ghost use Rattle.stores.specs.Stores.{Fits, cells_of};
 ghost use Rattle.ordered.specs.Ordered.{is_owned, EntryCount, KeyAt, Precedes, IsAfter, FirstOf, BetterOf, NextEntry};
 
 use packed::layout::Header;
-use stores::Found;
 use stores::run::CELLS;
 use texts::ascending_part;
 
@@ -17,10 +16,7 @@ fn is_owned(words: &[u64], i: usize, owner: u32) -> bool
     ensures { result ≡ is_owned owner words.now i }
 {
     let what = words[1794 + 4 * i];
-    if what % 4 < 2 {
-        return false;
-    }
-    what / 4 == owner as u64
+    2 <= what % 4 && what / 4 == owner as u64
 }
 
 // How many entries an object has.
@@ -28,14 +24,11 @@ pub fn count_entries(words: &[u64], run: &[u64; 16], owner: u32) -> u64
     requires { Fits run.now words.now }
     ensures { EntryCount result run.now words.now owner }
 {
-    let cells = run[CELLS] as usize;
-    let mut count: u64 = 0;
-    let mut i = 0;
-    while i < cells {
+    let mut count = 0;
+    for i in 0..run[CELLS] as usize {
         if is_owned(words, i, owner) {
-            count = count + 1;
+            count += 1;
         }
-        i = i + 1;
     }
     count
 }
@@ -45,10 +38,8 @@ pub fn key_at(words: &[u64], run: &[u64; 16], i: usize) -> u64
     requires { Fits run.now words.now }
     ensures { KeyAt result run.now words.now i }
 {
-    if i < run[CELLS] as usize {
-        if 2 <= words[1794 + 4 * i] % 4 {
-            return words[1795 + 4 * i];
-        }
+    if i < run[CELLS] as usize && 2 <= words[1794 + 4 * i] % 4 {
+        return words[1795 + 4 * i];
     }
     0
 }
@@ -67,28 +58,42 @@ fn precedes(image: &[u8], h: Header, words: &[u64], run: &[u64; 16], i: usize, j
 }
 
 // Whether cell j is written after the last one; where there is none, any is.
-fn is_after(image: &[u8], h: Header, words: &[u64], run: &[u64; 16], last: Found, j: usize) -> bool
+fn is_after(
+    image: &[u8],
+    h: Header,
+    words: &[u64],
+    run: &[u64; 16],
+    last: Option<usize>,
+    j: usize,
+) -> bool
     requires { (size_of h ≤ length image.now) × Fits run.now words.now }
     ensures { IsAfter result image.now h run.now words.now last j }
 {
-    let Found::At(i) = last else {
+    let Some(i) = last else {
         return true;
     };
     precedes(image, h, words, run, i, j)
 }
 
 // Of cell i and the best so far, the one that is written first.
-fn first_of(image: &[u8], h: Header, words: &[u64], run: &[u64; 16], i: usize, best: Found) -> Found
+fn first_of(
+    image: &[u8],
+    h: Header,
+    words: &[u64],
+    run: &[u64; 16],
+    i: usize,
+    best: Option<usize>,
+) -> Option<usize>
     requires { (size_of h ≤ length image.now) × Fits run.now words.now }
     ensures { FirstOf result image.now h run.now words.now i best }
 {
-    let Found::At(j) = best else {
-        return Found::At(i);
+    let Some(j) = best else {
+        return Some(i);
     };
     if precedes(image, h, words, run, i, j) {
-        return Found::At(i);
+        return Some(i);
     }
-    Found::At(j)
+    Some(j)
 }
 
 // The best so far with cell i looked at as well, if it is an entry of the owner and after the last one.
@@ -98,20 +103,17 @@ fn better_of(
     words: &[u64],
     run: &[u64; 16],
     owner: u32,
-    last: Found,
+    last: Option<usize>,
     i: usize,
-    best: Found,
-) -> Found
+    best: Option<usize>,
+) -> Option<usize>
     requires { (size_of h ≤ length image.now) × Fits run.now words.now × (i < cells_of run.now) }
     ensures { BetterOf result image.now h run.now words.now owner last i best }
 {
-    if !is_owned(words, i, owner) {
-        return best;
+    if is_owned(words, i, owner) && is_after(image, h, words, run, last, i) {
+        return first_of(image, h, words, run, i, best);
     }
-    if !is_after(image, h, words, run, last, i) {
-        return best;
-    }
-    first_of(image, h, words, run, i, best)
+    best
 }
 
 // The entry of an object that is written after the last one, or first of all where there is none.
@@ -121,15 +123,13 @@ pub fn next_entry(
     words: &[u64],
     run: &[u64; 16],
     owner: u32,
-    last: Found,
-) -> Found
+    last: Option<usize>,
+) -> Option<usize>
     requires { (size_of h ≤ length image.now) × Fits run.now words.now }
     ensures { NextEntry result image.now h run.now words.now owner last }
 {
-    let mut best = Found::Nothing;
-    let mut i = run[CELLS] as usize;
-    while 0 < i {
-        i = i - 1;
+    let mut best = None;
+    for i in (0..run[CELLS] as usize).rev() {
         best = better_of(image, h, words, run, owner, last, i, best);
     }
     best

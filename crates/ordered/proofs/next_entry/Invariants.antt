@@ -1,0 +1,8 @@
+-- The best so far is the next of the cells from `i` on.
+use Prim.Native.Nat.{◌≤◌}
+use Rattle.stores.specs.Stores.{cells_of}
+use Rattle.ordered.proofs.WordLaws.{NextFrom}
+use Rattle.ordered.proofs.next_entry.Given as goal
+
+abbrev pub invariant-loop-i : goal.invariant-loop-i
+invariant-loop-i l = (l.i ≤ cells_of l.run) × NextFrom l.image l.h l.run l.words l.owner l.last l.i l.best
