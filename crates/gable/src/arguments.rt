@@ -1,53 +1,43 @@
 // What the program was asked for, by its arguments.
+use reading::number;
 use std::env::FillError;
 use std::rt::Env;
+use std::{fmt, str};
 
 // The steps that an image may take where no budget is given, as in the Rust.
 const BUDGET: u64 = 1000000;
 
-#[derive(Clone, Copy)]
-pub enum Asked {
-    Nothing,
-    Eval(u64),
-    Hex(u64),
-    Unclear,
+// What goes to standard output of an image: its value as people read it, or the value's bytes.
+#[derive(Clone, Copy, Debug, PartialEq, Eq)]
+pub enum Command {
+    Eval,
+    Hex,
 }
 
-#[derive(Clone, Copy)]
-enum Budget {
-    Is(u64),
-    Bad,
+#[derive(Clone, Copy, Debug, PartialEq, Eq)]
+pub struct Asked {
+    pub command: Command,
+    pub budget: u64,
 }
 
-// A budget with one digit more.
-fn with_digit(n: u64, digit: u8) -> Budget {
-    if digit < b'0' {
-        return Budget::Bad;
-    }
-    if b'9' < digit {
-        return Budget::Bad;
-    }
-    let d = (digit - b'0') as u64;
-    if n > (u64::MAX - d) / 10 {
-        return Budget::Bad;
-    }
-    Budget::Is(n * 10 + d)
+// What is wrong with the arguments.
+#[derive(Clone, Copy, Debug, PartialEq, Eq)]
+pub enum Unclear {
+    Command,
+    Image,
+    Budget,
 }
 
-fn budget_of(text: &[u8]) -> Budget {
-    if text.len() == 0 {
-        return Budget::Bad;
+impl fmt::Display for Unclear {
+    fn fmt<W: fmt::Write>(&self, f: &mut fmt::Formatter<W>) -> fmt::Result {
+        f.write_str(match self {
+            Unclear::Command => "start with eval or hex: gable eval IMAGE [BUDGET]",
+            Unclear::Image => "name one image and at most one budget: gable eval IMAGE [BUDGET]",
+            Unclear::Budget => {
+                "give the budget as a whole number from 0 to 18446744073709551615, in digits only"
+            }
+        })
     }
-    let mut n: u64 = 0;
-    let mut i = 0;
-    while i < text.len() {
-        let Budget::Is(more) = with_digit(n, text[i]) else {
-            return Budget::Bad;
-        };
-        n = more;
-        i += 1;
-    }
-    Budget::Is(n)
 }
 
 // Whether there is an argument i, the program's own name being argument 0.
@@ -58,57 +48,38 @@ fn is_given(rt: &impl Env, i: usize) -> bool {
     }
 }
 
-// The budget, if there is such an argument.
-fn budget_asked(rt: &impl Env) -> Budget {
+fn command_asked(rt: &impl Env) -> Option<Command> {
+    let mut text = [0u8; 8];
+    let Ok(n) = rt.arg(1, &mut text) else {
+        return None;
+    };
+    match str::from_utf8(&text[..n]) {
+        Ok("eval") => Some(Command::Eval),
+        Ok("hex") => Some(Command::Hex),
+        _ => None,
+    }
+}
+
+fn budget_asked(rt: &impl Env) -> Option<u64> {
     if !is_given(rt, 3) {
-        return Budget::Is(BUDGET);
+        return Some(BUDGET);
     }
     let mut text = [0u8; 32];
     let Ok(n) = rt.arg(3, &mut text) else {
-        return Budget::Bad;
+        return None;
     };
-    budget_of(&text[..n])
+    number(&text[..n])
 }
 
-fn is_command(rt: &impl Env, name: &[u8]) -> bool {
-    let mut text = [0u8; 8];
-    let Ok(n) = rt.arg(1, &mut text) else {
-        return false;
-    };
-    &text[..n] == name
-}
-
-// The same for both commands: an image and at most a budget.
-fn with_image(rt: &impl Env, stderr: &impl Print, as_hex: bool) -> Asked {
-    if !is_given(rt, 2) || is_given(rt, 4) {
-        let _ = stderr.write_all(
-            b"gable: name one image and at most one budget: gable eval IMAGE [BUDGET]\n",
-        );
-        return Asked::Unclear;
-    }
-    let Budget::Is(budget) = budget_asked(rt) else {
-        let _ = stderr.write_all(
-            b"gable: give the budget as a whole number from 0 to 18446744073709551615, in digits only\n",
-        );
-        return Asked::Unclear;
-    };
-    if as_hex {
-        Asked::Hex(budget)
-    } else {
-        Asked::Eval(budget)
-    }
-}
-
-pub fn read(rt: &impl Env, stderr: &impl Print) -> Asked {
+// Both commands take an image and at most a budget. With no arguments nothing is asked.
+pub fn read(rt: &impl Env) -> Result<Option<Asked>, Unclear> {
     if !is_given(rt, 1) {
-        return Asked::Nothing;
+        return Ok(None);
     }
-    if is_command(rt, b"eval") {
-        return with_image(rt, stderr, false);
+    let command = command_asked(rt).ok_or(Unclear::Command)?;
+    if !is_given(rt, 2) || is_given(rt, 4) {
+        return Err(Unclear::Image);
     }
-    if is_command(rt, b"hex") {
-        return with_image(rt, stderr, true);
-    }
-    let _ = stderr.write_all(b"gable: start with eval or hex: gable eval IMAGE [BUDGET]\n");
-    Asked::Unclear
+    let budget = budget_asked(rt).ok_or(Unclear::Budget)?;
+    Ok(Some(Asked { command, budget }))
 }

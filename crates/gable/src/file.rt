@@ -1,59 +1,30 @@
 // An image from the file that the second argument names.
 ghost use Rattle.std.specs.Prelude.{◌≤◌, length, IfOk, IfSome};
-ghost use Rattle.gable.specs.Within.{Within};
 
-use printing::{bytes, warn, warn_errno};
+use printing::Page;
+use reading::read_full;
+use std::fmt::Write;
 use std::fs::File;
 use std::io::{Error, ErrorKind, Read};
 use std::rt::{Env, Files};
 use std::{io, str};
 
-#[derive(Clone, Copy)]
-pub enum Loaded {
-    // how many bytes it has
-    Whole(usize),
-    // why not has been told
-    Not,
-}
-
-// What is said on standard error of a file.
-fn told_of(page: &mut [u8], before: &[u8], path: &[u8], after: &[u8]) -> usize {
-    let mut at = bytes(page, 0, b"gable: ");
-    at = bytes(page, at, before);
-    at = bytes(page, at, path);
-    bytes(page, at, after)
-}
-
-fn tell(stderr: &impl Print, before: &[u8], path: &[u8], after: &[u8]) {
-    let mut page = [0u8; 8192];
-    let at = told_of(&mut page, before, path, after);
-    warn(stderr, &page, at);
-}
-
-fn tell_why(stderr: &impl Print, before: &[u8], path: &[u8], why: &Error) {
-    let mut page = [0u8; 8192];
-    let at = told_of(&mut page, before, path, b"");
-    warn_errno(stderr, &page, at, why);
-}
-
-// Reads until the image is full, the file ends or a read fails; how many bytes were read.
-fn read_full(file: &mut impl Read, image: &mut [u8]) -> usize
-    ensures { result ≤ length image.new }
-{
-    let mut done = 0;
-    while done < image.len() {
-        let Ok(n) = file.read(&mut image[done..]) else {
-            return done;
-        };
-        if n == 0 {
-            return done;
+// Says on standard error what is wrong with a file, and why where the system says it.
+fn tell(stderr: &impl Print, what: &str, path: &[u8], why: Option<&Error>) {
+    let mut room = [0u8; 8192];
+    let mut page = Page::new(&mut room);
+    let _ = write!(page, "gable: {what}");
+    page.bytes(path);
+    match why {
+        Some(why) => page.warn_errno(stderr, why),
+        None => {
+            page.byte(b'\n');
+            page.warn(stderr);
         }
-        done += n;
     }
-    done
 }
 
-// The same, and none if the file goes on: the read after the last tells that, or why there is no more.
+// How much was read; none if the file goes on: the read after the last tells that, or why there is no more.
 fn read_to_end(file: &mut impl Read, image: &mut [u8]) -> io::Result<Option<usize>>
     ensures { IfOk result (λ some. IfSome some (λ n. n ≤ length image.new)) }
 {
@@ -66,29 +37,34 @@ fn read_to_end(file: &mut impl Read, image: &mut [u8]) -> io::Result<Option<usiz
     }
 }
 
-// All of an open file, and not a byte more, or why not is told.
-fn read_whole(file: &mut impl Read, stderr: &impl Print, path: &[u8], image: &mut [u8]) -> Loaded
-    ensures { Within result image.new }
+// How long an open file is, all of it and not a byte more; none, and why not is told, where it is no image.
+fn read_whole(
+    file: &mut impl Read,
+    stderr: &impl Print,
+    path: &[u8],
+    image: &mut [u8],
+) -> Option<usize>
+    ensures { IfSome result (λ n. n ≤ length image.new) }
 {
     match read_to_end(file, image) {
-        Ok(Some(length)) => Loaded::Whole(length),
+        Ok(Some(length)) => Some(length),
         Ok(None) => {
             tell(
                 stderr,
-                b"name an image of at most 140273 bytes, not ",
+                "name an image of at most 140273 bytes, not ",
                 path,
-                b"\n",
+                None,
             );
-            Loaded::Not
+            None
         }
         Err(why) => {
-            tell_why(
+            tell(
                 stderr,
-                b"name an image file that can be read, not ",
+                "name an image file that can be read, not ",
                 path,
-                &why,
+                Some(&why),
             );
-            Loaded::Not
+            None
         }
     }
 }
@@ -104,25 +80,26 @@ fn opened<R: Files>(rt: &R, path: &[u8]) -> io::Result<R::File> {
     }
 }
 
-pub fn load(rt: &(impl Env + Files), stderr: &impl Print, image: &mut [u8]) -> Loaded
-    ensures { Within result image.new }
+// How many bytes the image has; none, and why not is told, where there is none.
+pub fn load(rt: &(impl Env + Files), stderr: &impl Print, image: &mut [u8]) -> Option<usize>
+    ensures { IfSome result (λ n. n ≤ length image.new) }
 {
     let mut path = [0u8; 4096];
     let Ok(n) = rt.arg(2, &mut path) else {
         let why = Error::from_raw_os_error(TOO_LONG);
-        tell_why(stderr, b"name the image by a shorter path", b"", &why);
-        return Loaded::Not;
+        tell(stderr, "name the image by a shorter path", b"", Some(&why));
+        return None;
     };
     match opened(rt, &path[..n]) {
         Ok(mut file) => read_whole(&mut file, stderr, &path[..n], image),
         Err(why) => {
-            tell_why(
+            tell(
                 stderr,
-                b"name an image file that can be opened, not ",
+                "name an image file that can be opened, not ",
                 &path[..n],
-                &why,
+                Some(&why),
             );
-            Loaded::Not
+            None
         }
     }
 }

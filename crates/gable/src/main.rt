@@ -8,8 +8,7 @@ mod meaning; // what a refusal means, in a few words
 mod value; // a value as people read it
 
 use arguments::Asked;
-use file::Loaded;
-use printing::{bytes, send};
+use printing::Page;
 use std::rt::{Env, Files};
 
 // The longest image of edition 1: its header, 255 functions, 4,095 nodes, 4,095 literals and 65,535 bytes of text.
@@ -19,39 +18,36 @@ fn load_and_print(
     rt: &(impl Env + Files + Print),
     stderr: &impl Print,
     image: &mut [u8],
-    budget: u64,
-    as_hex: bool,
+    asked: Asked,
 ) {
-    let loaded = file::load(rt, stderr, image);
-    let Loaded::Whole(length) = loaded else {
-        return;
-    };
-    answer::evaluate_and_print(rt, stderr, &image[0..length], budget, as_hex);
+    if let Some(length) = file::load(rt, stderr, image) {
+        answer::evaluate_and_print(rt, stderr, &image[..length], asked);
+    }
 }
 
-fn run(rt: &(impl Env + Files + Print), stderr: &impl Print, budget: u64, as_hex: bool) {
+fn run(rt: &(impl Env + Files + Print), stderr: &impl Print, asked: Asked) {
     let mut image = [0u8; LONGEST];
-    load_and_print(rt, stderr, &mut image, budget, as_hex);
+    load_and_print(rt, stderr, &mut image, asked);
 }
 
 fn usage(stdout: &impl Print, stderr: &impl Print) {
-    let mut page = [0u8; 512];
-    let at = bytes(
-        &mut page,
-        0,
+    let mut room = [0u8; 512];
+    let mut page = Page::new(&mut room);
+    page.bytes(
         b"gable eval IMAGE [BUDGET]   evaluates an image; prints its value and the steps taken, or the refusal\n\
 gable hex IMAGE [BUDGET]    the same, with the value's output bytes in hexadecimal\n\
 IMAGE is a file. BUDGET is how many steps it may take: 1000000 if it is left out.\n",
     );
-    send(stdout, stderr, &page, at);
+    page.send(stdout, stderr);
 }
 
 fn main(rt: HostRuntime) {
     let stderr = rt.stderr();
-    match arguments::read(&rt, &stderr) {
-        Asked::Nothing => usage(&rt, &stderr),
-        Asked::Eval(budget) => run(&rt, &stderr, budget, false),
-        Asked::Hex(budget) => run(&rt, &stderr, budget, true),
-        Asked::Unclear => {}
+    match arguments::read(&rt) {
+        Ok(Some(asked)) => run(&rt, &stderr, asked),
+        Ok(None) => usage(&rt, &stderr),
+        Err(unclear) => {
+            let _ = stderr.println(format_args!("gable: {unclear}"));
+        }
     }
 }

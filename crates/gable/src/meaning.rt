@@ -1,72 +1,34 @@
-// What 01's refusal numbers mean, in a few words.
-use printing::byte;
-
-// Where line n starts, from 0 on.
-fn start_of(lines: &[u8], n: usize) -> usize {
-    let mut left = n;
-    let mut i = 0;
-    while i < lines.len() {
-        if left == 0 {
-            return i;
-        }
-        if lines[i] == b'\n' {
-            left -= 1;
-        }
-        i += 1;
+// What a refusal's number means, in a few words.
+pub fn meaning(number: u8) -> &'static str {
+    match number {
+        0 => "no refusal",
+        1 => "wrong length of the image",
+        2 => "bad header",
+        3 => "bad record",
+        4 => "nodes form no tree",
+        5 => "store too short",
+        6 => "budget spent",
+        7 => "nested too deeply",
+        8 => "no cells left",
+        9 => "no text bytes left",
+        10 => "too many bindings",
+        11 => "too many pending items",
+        12 => "not constant: no such operation on these values",
+        13 => "break outside of its loop",
+        14 => "break with a value out of a loop with a condition",
+        15 => "condition is no bool",
+        16 => "overflow",
+        17 => "division by zero or overflowing",
+        18 => "shift operand out of range",
+        19 => "assigned operands not both signed",
+        20 => "no such name",
+        21 => "no such field",
+        22 => "no such index",
+        23 => "value has no fields or no indices",
+        24 => "wrong number of arguments",
+        25 => "float in a template",
+        26 => "value nested too deeply to be written",
+        27 => "value too long for the output",
+        _ => "",
     }
-    i
-}
-
-// What stands from there to the end of the line.
-fn line_from(page: &mut [u8], at: usize, lines: &[u8], start: usize) -> usize {
-    let mut end = at;
-    let mut i = start;
-    while i < lines.len() {
-        if lines[i] == b'\n' {
-            return end;
-        }
-        end = byte(page, end, lines[i]);
-        i += 1;
-    }
-    end
-}
-
-fn line(page: &mut [u8], at: usize, lines: &[u8], n: usize) -> usize {
-    line_from(page, at, lines, start_of(lines, n))
-}
-
-pub fn meaning(page: &mut [u8], at: usize, number: u8) -> usize {
-    line(
-        page,
-        at,
-        b"no refusal\n\
-wrong length of the image\n\
-bad header\n\
-bad record\n\
-nodes form no tree\n\
-store too short\n\
-budget spent\n\
-nested too deeply\n\
-no cells left\n\
-no text bytes left\n\
-too many bindings\n\
-too many pending items\n\
-not constant: no such operation on these values\n\
-break outside of its loop\n\
-break with a value out of a loop with a condition\n\
-condition is no bool\n\
-overflow\n\
-division by zero or overflowing\n\
-shift operand out of range\n\
-assigned operands not both signed\n\
-no such name\n\
-no such field\n\
-no such index\n\
-value has no fields or no indices\n\
-wrong number of arguments\n\
-float in a template\n\
-value nested too deeply to be written\n\
-value too long for the output\n",
-        number as usize,
-    )
 }

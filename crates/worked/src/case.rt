@@ -1,8 +1,10 @@
 // One case: a program, what it is given and what has to come of it.
-use crate::pattern::{begins, begins_with_zeros, fill, fill_words};
-use crate::word::{Read, bytes, end_of, number, start_of};
+use crate::pattern::{begins, fill};
+use crate::word::{bytes, word};
 use gablestrand::evaluate;
+use reading::number;
 use rules::Answer;
+use std::fmt;
 
 // What 01 asks of the stores.
 const WORDS: usize = 8192;
@@ -13,7 +15,7 @@ const BYTES: usize = 16384;
 const ROOM: usize = 4160;
 
 // The words of a line between its image and its output.
-#[derive(Clone, Copy)]
+#[derive(Clone, Copy, Debug, PartialEq, Eq)]
 struct Case {
     budget: u64,
     // the lengths of what is lent
@@ -26,9 +28,8 @@ struct Case {
     steps: u64,
 }
 
-#[derive(Clone, Copy)]
+#[derive(Clone, Copy, Debug, PartialEq, Eq)]
 pub enum Fault {
-    No,
     // its number, place, steps or length
     Answer,
     Output,
@@ -36,55 +37,57 @@ pub enum Fault {
     Bytes,
 }
 
+impl fmt::Display for Fault {
+    fn fmt<W: fmt::Write>(&self, f: &mut fmt::Formatter<W>) -> fmt::Result {
+        f.write_str(match self {
+            Fault::Answer => "wrong answer",
+            Fault::Output => "wrong output",
+            Fault::Words => "wrong word store",
+            Fault::Bytes => "wrong byte store",
+        })
+    }
+}
+
+// What came of a case, and whether that is what had to.
 #[derive(Clone, Copy)]
-pub enum Outcome {
-    Answered(Answer, Fault),
-    // the line is no case
-    Unclear,
+pub struct Outcome {
+    pub answer: Answer,
+    pub judged: Result<(), Fault>,
 }
 
 // How long the answer's output is.
 pub fn length_of(answer: Answer) -> usize {
-    let Answer::Value(length, _) = answer else {
-        return 0;
-    };
-    length
+    match answer {
+        Answer::Value(length, _) => length,
+        _ => 0,
+    }
 }
 
 fn is_due(answer: Answer, case: Case, length: usize) -> bool {
-    if answer.number() as u64 != case.number {
-        return false;
-    }
-    if answer.place() as u64 != case.place {
-        return false;
-    }
-    if answer.steps() != case.steps {
-        return false;
-    }
-    length_of(answer) == length
-}
-
-fn low_byte(n: u64) -> u8 {
-    (n % 256) as u8
+    u64::from(answer.number()) == case.number
+        && answer.place() as u64 == case.place
+        && answer.steps() == case.steps
+        && length_of(answer) == length
 }
 
 // After refusal 5 the stores are as found, after any other answer their first parts are zero.
 fn words_are_right(words: &[u64], number: u64, first: u64) -> bool {
+    let zeros = [0u64; WORDS];
     if number == 5 {
-        return begins_with_zeros(words, 0, first);
+        return begins(words, &[], first);
     }
-    begins_with_zeros(words, WORDS, first)
+    begins(words, &zeros, first)
 }
 
-fn bytes_are_right(bytes: &[u8], number: u64, first: u8) -> bool {
-    if number == 5 {
-        return begins(bytes, b"", first);
-    }
+fn bytes_are_right(bytes: &[u8], number: u64, first: u64) -> bool {
     let zeros = [0u8; BYTES];
+    if number == 5 {
+        return begins(bytes, &[], first);
+    }
     begins(bytes, &zeros, first)
 }
 
-fn fault_of(
+fn judged(
     answer: Answer,
     case: Case,
     output: &[u8],
@@ -92,20 +95,20 @@ fn fault_of(
     bytes: &[u8],
     out: &[u8],
     first: u64,
-) -> Fault {
+) -> Result<(), Fault> {
     if !is_due(answer, case, output.len()) {
-        return Fault::Answer;
+        return Err(Fault::Answer);
     }
-    if !begins(out, output, low_byte(first)) {
-        return Fault::Output;
+    if !begins(out, output, first) {
+        return Err(Fault::Output);
     }
     if !words_are_right(words, case.number, first) {
-        return Fault::Words;
+        return Err(Fault::Words);
     }
-    if !bytes_are_right(bytes, case.number, low_byte(first)) {
-        return Fault::Bytes;
+    if !bytes_are_right(bytes, case.number, first) {
+        return Err(Fault::Bytes);
     }
-    Fault::No
+    Ok(())
 }
 
 // What is lent is the start of the stores and of the output, and what stands behind it is compared too.
@@ -117,86 +120,62 @@ fn evaluated(
     bytes: &mut [u8],
     out: &mut [u8],
     first: u64,
-) -> Outcome {
-    let words_lent = case.words;
-    let bytes_lent = case.bytes;
-    let out_lent = case.out;
-    if words_lent > words.len() {
-        return Outcome::Unclear;
-    }
-    if bytes_lent > bytes.len() {
-        return Outcome::Unclear;
-    }
-    if out_lent > out.len() {
-        return Outcome::Unclear;
+) -> Option<Outcome> {
+    if case.words > words.len() || case.bytes > bytes.len() || case.out > out.len() {
+        return None;
     }
     let answer = evaluate(
         image,
         case.budget,
-        &mut words[0..words_lent],
-        &mut bytes[0..bytes_lent],
-        &mut out[0..out_lent],
+        &mut words[..case.words],
+        &mut bytes[..case.bytes],
+        &mut out[..case.out],
     );
-    let fault = fault_of(answer, case, output, words, bytes, out, first);
-    Outcome::Answered(answer, fault)
+    let judged = judged(answer, case, output, words, bytes, out, first);
+    Some(Outcome { answer, judged })
 }
 
-fn on_stores(image: &[u8], case: Case, output: &[u8], first: u64) -> Outcome {
+fn on_stores(image: &[u8], case: Case, output: &[u8], first: u64) -> Option<Outcome> {
     let mut words = [0u64; WORDS + 32];
     let mut bytes = [0u8; BYTES + 32];
     let mut out = [0u8; ROOM];
-    fill_words(&mut words, first);
-    fill(&mut bytes, low_byte(first));
-    fill(&mut out, low_byte(first));
+    fill(&mut words, first);
+    fill(&mut bytes, first);
+    fill(&mut out, first);
     evaluated(image, case, output, &mut words, &mut bytes, &mut out, first)
 }
 
-fn read_numbers(line: &[u8], numbers: &mut [u64; 7]) -> bool {
-    let mut i = 0;
-    while i < 7 {
-        let Read::Is(n) = number(line, i + 1) else {
-            return false;
-        };
-        numbers[i] = n;
-        i += 1;
-    }
-    let last = start_of(line, 8);
-    end_of(line, last, b' ') == line.len()
+fn number_at(line: &[u8], n: usize) -> Option<u64> {
+    number(word(line, n)?)
 }
 
-fn case_of(numbers: &[u64; 7]) -> Case {
-    Case {
-        budget: numbers[0],
-        out: numbers[1] as usize,
-        words: numbers[2] as usize,
-        bytes: numbers[3] as usize,
-        number: numbers[4],
-        place: numbers[5],
-        steps: numbers[6],
-    }
+fn case_of(line: &[u8]) -> Option<Case> {
+    Some(Case {
+        budget: number_at(line, 1)?,
+        out: number_at(line, 2)? as usize,
+        words: number_at(line, 3)? as usize,
+        bytes: number_at(line, 4)? as usize,
+        number: number_at(line, 5)?,
+        place: number_at(line, 6)?,
+        steps: number_at(line, 7)?,
+    })
 }
 
-// The line's program is evaluated, on stores and an output that are filled from this number on.
-pub fn tried(line: &[u8], first: u64) -> Outcome {
-    let mut numbers = [0u64; 7];
+// The line's program is evaluated, on stores and an output that are filled from this number on; none where the line is no
+// case, which has nine words.
+pub fn tried(line: &[u8], first: u64) -> Option<Outcome> {
     let mut image = [0u8; ROOM];
     let mut output = [0u8; ROOM];
-    let is_read = read_numbers(line, &mut numbers);
-    let image_length = bytes(line, 0, &mut image);
-    let output_length = bytes(line, 8, &mut output);
-    if !is_read {
-        return Outcome::Unclear;
-    }
-    if image_length > ROOM {
-        return Outcome::Unclear;
-    }
-    if output_length > ROOM {
-        return Outcome::Unclear;
+    let case = case_of(line)?;
+    let image_length = bytes(word(line, 0)?, &mut image)?;
+    let output_length = bytes(word(line, 8)?, &mut output)?;
+    if word(line, 9).is_some() {
+        return None;
     }
     on_stores(
-        &image[0..image_length],
-        case_of(&numbers),
-        &output[0..output_length],
+        &image[..image_length],
+        case,
+        &output[..output_length],
         first,
     )
 }

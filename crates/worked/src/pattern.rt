@@ -1,61 +1,55 @@
-// What stands in the stores and the output at entry. It differs from case to case by its first number.
-use std::num::{wrapping_add_u8, wrapping_add_u64};
+// What stands in the stores and the output at entry. It differs from case to case by its first item.
+
+// What stores and outputs are filled with: each item is followed by another.
+pub trait Pattern: Copy + PartialEq {
+    fn first(n: u64) -> Self;
+
+    fn next(self) -> Self;
+}
 
 // Odd, so that 256 bytes on end differ.
 const BYTE_STEP: u8 = 37;
 
+impl Pattern for u8 {
+    fn first(n: u64) -> u8 {
+        (n % 256) as u8
+    }
+
+    fn next(self) -> u8 {
+        self.wrapping_add(BYTE_STEP)
+    }
+}
+
 // Odd and large, so that no two words are equal and all their bytes change.
 const WORD_STEP: u64 = 0x9E3779B97F4A7C15;
 
-pub fn fill(bytes: &mut [u8], first: u8) {
-    let mut pattern = first;
-    let mut i = 0;
-    while i < bytes.len() {
-        bytes[i] = pattern;
-        pattern = wrapping_add_u8(pattern, BYTE_STEP);
-        i += 1;
+impl Pattern for u64 {
+    fn first(n: u64) -> u64 {
+        n
+    }
+
+    fn next(self) -> u64 {
+        self.wrapping_add(WORD_STEP)
     }
 }
 
-pub fn fill_words(words: &mut [u64], first: u64) {
-    let mut pattern = first;
-    let mut i = 0;
-    while i < words.len() {
-        words[i] = pattern;
-        pattern = wrapping_add_u64(pattern, WORD_STEP);
-        i += 1;
+pub fn fill<T: Pattern>(items: &mut [T], first: u64) {
+    let mut pattern = T::first(first);
+    for item in items.iter_mut() {
+        *item = pattern;
+        pattern = pattern.next();
     }
 }
 
-fn byte_or(bytes: &[u8], i: usize, other: u8) -> u8 {
-    if i < bytes.len() { bytes[i] } else { other }
-}
-
-// Whether the bytes begin with these, and are as they were filled from there on.
-pub fn begins(bytes: &[u8], start: &[u8], first: u8) -> bool {
-    let mut pattern = first;
-    let mut i = 0;
-    while i < bytes.len() {
-        if bytes[i] != byte_or(start, i, pattern) {
+// Whether the items begin with these, and are as they were filled from there on.
+pub fn begins<T: Pattern>(items: &[T], start: &[T], first: u64) -> bool {
+    let mut pattern = T::first(first);
+    for (i, item) in items.iter().enumerate() {
+        let due = start.get(i).copied().unwrap_or(pattern);
+        if *item != due {
             return false;
         }
-        pattern = wrapping_add_u8(pattern, BYTE_STEP);
-        i += 1;
+        pattern = pattern.next();
     }
-    start.len() <= bytes.len()
-}
-
-// Whether so many words are 0, and the others as they were filled.
-pub fn begins_with_zeros(words: &[u64], zeros: usize, first: u64) -> bool {
-    let mut pattern = first;
-    let mut i = 0;
-    while i < words.len() {
-        let due = if i < zeros { 0 } else { pattern };
-        if words[i] != due {
-            return false;
-        }
-        pattern = wrapping_add_u64(pattern, WORD_STEP);
-        i += 1;
-    }
-    zeros <= words.len()
+    start.len() <= items.len()
 }

@@ -1,0 +1,9 @@
+-- What was read stays within the bytes, and what is left of them falls.
+use Rattle.std.proofs.Common.{◌-◌, ◌≤◌, length}
+use Rattle.reading.proofs.read_full.Given as goal
+
+abbrev pub invariant-loop-done : goal.invariant-loop-done
+invariant-loop-done g l = l.done ≤ length l.bytes
+
+abbrev pub decreases-loop-done : goal.decreases-loop-done
+decreases-loop-done g l = length l.initial.bytes - l.done
