@@ -16,17 +16,19 @@ use native.Mathlib.Decide.{dec_lt}
 use native.Mathlib.Omega.{arith}
 use lib.Seq.{drop-append-le}
 use Rattle.stores.specs.View.{rec_at}
+use Rattle.stores.specs.declared.run.Run.{Run}
+use Rattle.stores.specs.Run.{set_pending}
 use Rattle.stores.proofs.Views.{length-view, view_more, rec_word}
 
-pub push_full : (v : Value) (run words : List ℕ) → Fits run words → 512 ≤ pending_of run → TriedWords false (pushed_if_room v) run words run words
+pub push_full : (v : Value) (run : Run) (words : List ℕ) → Fits run words → 512 ≤ pending_of run → TriedWords false (pushed_if_room v) run words run words
 push_full v run words f full bytes =
     refused (pushed_if_room v) f (rw (length_part pending_counted run words bytes, le-ltb (pending_of run) 512 full))
 
-pub push_made : (v : Value) (run words words' : List ℕ) → Fits run words → pending_of run < 512 → Put v (768 + 2 * pending_of run) words words'
-    → TriedWords true (pushed_if_room v) run words (set run 4 (pending_of run + 1)) words'
+pub push_made : (v : Value) (run : Run) (words words' : List ℕ) → Fits run words → pending_of run < 512 → Put v (768 + 2 * pending_of run) words words'
+    → TriedWords true (pushed_if_room v) run words (set_pending run (pending_of run + 1)) words'
 unfolding pending_in
 push_made v run words words' f below put bytes =
-    subst (λ (w : List ℕ). Tried true (pushed_if_room v) run words bytes (set run 4 (pending_of run + 1)) w bytes) (sym put.stored)
+    subst (λ (w : List ℕ). Tried true (pushed_if_room v) run words bytes (set_pending run (pending_of run + 1)) w bytes) (sym put.stored)
     (made (pushed_if_room v) (pushed v) (rw (length_part pending_counted run words bytes, lt-ltb (pending_of run) 512 below))
     (became_as _ (pushed v) (ap (λ (u : Value). with_pending ((store_of run words bytes).pending ++ (u ∷ [])) (store_of run words bytes)) put.back)
     (one_more pending_counted run words (768 + 2 * pending_of run) (slot_words v) f refl refl below bytes)))
@@ -55,5 +57,5 @@ pendings_since from n words = go (dec_lt n from)
     go (yes fewer) = pendings_none from (from + (n - from)) words (omega arith) ∙ sym (pendings_none from n words (omega arith))
     go (no enough) = ap (λ (k : ℕ). drop from (pendings_in k words)) (omega arith)
 
-pub length-pending : (run words bytes : List ℕ) → length (store_of run words bytes).pending ≡ pending_of run
+pub length-pending : (run : Run) (words bytes : List ℕ) → length (store_of run words bytes).pending ≡ pending_of run
 length-pending run words bytes = length_part pending_counted run words bytes

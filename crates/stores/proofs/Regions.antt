@@ -9,6 +9,7 @@ use lib.Seq.{sets, length-sets}
 use Rattle.rules.specs.Store.{with_cells, with_bindings, with_pending}
 use Rattle.stores.specs.Stores.{bound_of, pending_of, cells_of, binding_in, pending_in, cell_in, cells_in, bindings_in, pendings_in, store_of, Fits}
 use Rattle.stores.proofs.Views.{view_apart}
+use Rattle.stores.specs.declared.run.Run.{Run}
 
 module _ (l vs : List ℕ) (at : ℕ) where
   pub bindings_apart : (n : ℕ) → n ≤ 256 → 768 ≤ at → bindings_in n (sets l at vs) ≡ bindings_in n l
@@ -25,10 +26,9 @@ module _ (l vs : List ℕ) (at : ℕ) where
   cells_apart n before = view_apart cell_in 1792 4 n l vs at (inl before)
 
 -- other words, as many
-pub fits_words : (run words words' : List ℕ) → Fits run words → length words' ≡ length words → Fits run words'
+pub fits_words : (run : Run) (words words' : List ℕ) → Fits run words → length words' ≡ length words → Fits run words'
 fits_words run words words' f long =
     record {
-      run_length = f.run_length;
       words_length = omega (arith, f.words_length, long);
       bindings = f.bindings;
       pending = f.pending;
@@ -37,7 +37,7 @@ fits_words run words words' f long =
     }
 
 -- stores in one region make another list of it alone
-module _ (run words bytes vs : List ℕ) (at : ℕ) (f : Fits run words) where
+module _ (run : Run) (words bytes vs : List ℕ) (at : ℕ) (f : Fits run words) where
   pub in_bindings : at + length vs ≤ 768 → store_of run (sets words at vs) bytes ≡ with_bindings (bindings_in (bound_of run) (sets words at vs)) (store_of run words bytes)
   unfolding store_of
   in_bindings h = rw (pendings_apart words vs at (pending_of run) f.pending (inl h), cells_apart words vs at (cells_of run) (omega arith))

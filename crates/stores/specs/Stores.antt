@@ -1,5 +1,5 @@
 -- The store of the rules as it stands in the lent words and bytes, and what a change of it promises. docs/STORES.md has the layout as a table.
-use Rattle.std.specs.Prelude.{ℕ, Result, Ok, Err, ◌/◌, ◌%◌, ◌≤◌, ◌≡◌, Bool, false, cond, List, eqb, length, get_or, take, drop}
+use Rattle.std.specs.Prelude.{ℕ, ◌/◌, ◌%◌, ◌≤◌, ◌≡◌, Bool, false, cond, List, eqb, length, get_or, take}
 use Rattle.std.proofs.Math.Option.{Option, some, none}
 use Rattle.rules.specs.declared.Value.{Value}
 use Rattle.rules.specs.declared.Refused.{Refused}
@@ -7,32 +7,30 @@ use Rattle.rules.specs.Building.{Made, gives, refuses}
 use Rattle.rules.specs.Store.{Cell, head, item, entry, Binding, Store, most_cells, most_text, most_bindings, most_pending}
 use Rattle.slots.specs.Slot.{value_of}
 use Rattle.stores.specs.View.{view}
+use Rattle.stores.specs.declared.run.Run.{Run}
 
--- ---- the run's numbers, by their places
+-- ---- the run's numbers
 
-abbrev pub numbers : ℕ
-numbers = 16
+abbrev pub takes_of : Run → ℕ
+takes_of run = run.takes
 
-abbrev pub takes_of : List ℕ → ℕ
-takes_of run = get_or run 0 0
+abbrev pub bound_of : Run → ℕ
+bound_of run = run.bound
 
-abbrev pub bound_of : List ℕ → ℕ
-bound_of run = get_or run 1 0
+abbrev pub scope_of : Run → ℕ
+scope_of run = run.scope
 
-abbrev pub scope_of : List ℕ → ℕ
-scope_of run = get_or run 2 0
+abbrev pub floor_of : Run → ℕ
+floor_of run = run.floor
 
-abbrev pub floor_of : List ℕ → ℕ
-floor_of run = get_or run 3 0
+abbrev pub pending_of : Run → ℕ
+pending_of run = run.pending
 
-abbrev pub pending_of : List ℕ → ℕ
-pending_of run = get_or run 4 0
+abbrev pub cells_of : Run → ℕ
+cells_of run = run.cells
 
-abbrev pub cells_of : List ℕ → ℕ
-cells_of run = get_or run 5 0
-
-abbrev pub text_of : List ℕ → ℕ
-text_of run = get_or run 6 0
+abbrev pub text_of : Run → ℕ
+text_of run = run.text
 
 -- ---- records in the words: a value is its payload and its kind; after them a binding has its name, and a cell four times its owner with what it is (0 a
 -- head, whose payload is its count, 1 an item, 2 an entry), and an entry's key
@@ -62,7 +60,7 @@ pendings_in n words = view pending_in 768 2 n words
 unfoldable pub cells_in : ℕ → List ℕ → List Cell
 cells_in n words = view cell_in 1792 4 n words
 
-unfoldable pub store_of : List ℕ → List ℕ → List ℕ → Store
+unfoldable pub store_of : Run → List ℕ → List ℕ → Store
 store_of run words bytes =
     record {
       cells = cells_in (cells_of run) words;
@@ -76,26 +74,24 @@ store_of run words bytes =
 -- ---- what every change keeps, and what it makes of the store
 
 -- no region holds more than it has room for
-pub record Fits (run words : List ℕ) : Type 0 where
-  pub run_length : length run ≡ numbers
+pub record Fits (run : Run) (words : List ℕ) : Type 0 where
   pub words_length : 8192 ≤ length words
   pub bindings : bound_of run ≤ most_bindings
   pub pending : pending_of run ≤ most_pending
   pub cells : cells_of run ≤ most_cells
   pub text : text_of run ≤ most_text
 
-pub record Kept (run bytes run' words' bytes' : List ℕ) : Type 0 where
+pub record Kept (run : Run) (bytes : List ℕ) (run' : Run) (words' bytes' : List ℕ) : Type 0 where
   pub fits : Fits run' words'
   pub room : length bytes' ≡ length bytes
   pub takes : takes_of run' ≡ takes_of run
-  pub rest : drop 7 run' ≡ drop 7 run
 
-pub record Became (f : Store → Store) (run words bytes run' words' bytes' : List ℕ) : Type 0 where
+pub record Became (f : Store → Store) (run : Run) (words bytes : List ℕ) (run' : Run) (words' bytes' : List ℕ) : Type 0 where
   pub store : store_of run' words' bytes' ≡ f (store_of run words bytes)
   pub kept : Kept run bytes run' words' bytes'
 
 -- a change that is made in full, or not at all where there is no room
-pub record Tried (r : Bool) (f : Store → Option Store) (run words bytes run' words' bytes' : List ℕ) : Type 0 where
+pub record Tried (r : Bool) (f : Store → Option Store) (run : Run) (words bytes : List ℕ) (run' : Run) (words' bytes' : List ℕ) : Type 0 where
   pub did : f (store_of run words bytes) ≡ cond r (some (store_of run' words' bytes')) none
   pub undone : r ≡ false → store_of run' words' bytes' ≡ store_of run words bytes
   pub kept : Kept run bytes run' words' bytes'
@@ -105,25 +101,25 @@ abbrev pub made_by : Result Value Refused → Store → Made
 made_by (Ok v) σ = gives v σ
 made_by (Err e) σ = refuses e.why e.place
 
-pub record Makes (r : Result Value Refused) (f : Store → Made) (run words bytes run' words' bytes' : List ℕ) : Type 0 where
+pub record Makes (r : Result Value Refused) (f : Store → Made) (run : Run) (words bytes : List ℕ) (run' : Run) (words' bytes' : List ℕ) : Type 0 where
   pub did : f (store_of run words bytes) ≡ made_by r (store_of run' words' bytes')
   pub undone : (e : Refused) → r ≡ Err e → store_of run' words' bytes' ≡ store_of run words bytes
   pub kept : Kept run bytes run' words' bytes'
 
 -- of a function that has no byte store, for whatever stands there
-abbrev pub BecameWords : (Store → Store) → List ℕ → List ℕ → List ℕ → List ℕ → Type 0
+abbrev pub BecameWords : (Store → Store) → Run → List ℕ → Run → List ℕ → Type 0
 BecameWords f run words run' words' = (bytes : List ℕ) → Became f run words bytes run' words' bytes
 
-abbrev pub TriedWords : Bool → (Store → Option Store) → List ℕ → List ℕ → List ℕ → List ℕ → Type 0
+abbrev pub TriedWords : Bool → (Store → Option Store) → Run → List ℕ → Run → List ℕ → Type 0
 TriedWords r f run words run' words' = (bytes : List ℕ) → Tried r f run words bytes run' words' bytes
 
 -- and of one that has the run's numbers alone
-abbrev pub BecameRun : (Store → Store) → List ℕ → List ℕ → Type 0
+abbrev pub BecameRun : (Store → Store) → Run → Run → Type 0
 BecameRun f run run' = (words bytes : List ℕ) → Fits run words → Became f run words bytes run' words bytes
 
 -- of one that has no words, and of one that has no bytes
-abbrev pub MakesText : Result Value Refused → (Store → Made) → List ℕ → List ℕ → List ℕ → List ℕ → Type 0
+abbrev pub MakesText : Result Value Refused → (Store → Made) → Run → List ℕ → Run → List ℕ → Type 0
 MakesText r f run bytes run' bytes' = (words : List ℕ) → Fits run words → Makes r f run words bytes run' words bytes'
 
-abbrev pub MakesWords : Result Value Refused → (Store → Made) → List ℕ → List ℕ → List ℕ → List ℕ → Type 0
+abbrev pub MakesWords : Result Value Refused → (Store → Made) → Run → List ℕ → Run → List ℕ → Type 0
 MakesWords r f run words run' words' = (bytes : List ℕ) → Makes r f run words bytes run' words' bytes
