@@ -28,8 +28,10 @@ use Rattle.stores.proofs.PendingLaws.{pendings_since}
 use Rattle.stores.proofs.FoundLaws.{found_some, found_none}
 use Rattle.stores.proofs.Chains.{kept_same, refused, made, became_as, became_then, run_then, became_scope, became_floor}
 use Rattle.stores.proofs.Counted.{bindings_counted, pending_counted, length_part, recounted, one_anew, one_more}
+use Rattle.stores.specs.declared.run.Run.{Run}
+use Rattle.stores.specs.Run.{set_bound, set_floor, set_scope}
 
-pub became_opened : (run : List ℕ) → BecameRun opened run (set run 2 (bound_of run))
+pub became_opened : (run : Run) → BecameRun opened run (set_scope run (bound_of run))
 became_opened run words bytes f =
     became_as (with_scope (bound_of run)) opened
     (ap (λ (n : ℕ). with_scope n (store_of run words bytes)) (sym (length_part bindings_counted run words bytes)))
@@ -115,7 +117,7 @@ slot_at base stride i words h =
     ap₂ value_of (rec_word base stride i 1 words h)
     (rec_word base stride i 0 words (omega arith) ∙ ap (λ (k : ℕ). get_or words k 0) (add-zero (base + stride * i)))
 
-pub bound_some : (run words : List ℕ) (i : ℕ) (v : Value) → i < bound_of run → v ≡ value_of (get_or words (3 * i + 1) 0) (get_or words (3 * i) 0) → BoundAt v run words i
+pub bound_some : (run : Run) (words : List ℕ) (i : ℕ) (v : Value) → i < bound_of run → v ≡ value_of (get_or words (3 * i + 1) 0) (get_or words (3 * i) 0) → BoundAt v run words i
 unfolding binding_in bindings_in store_of
 bound_some run words i v h e =
     let place : 3 * i ≡ 0 + 3 * i = omega arith in
@@ -128,7 +130,7 @@ bound_some run words i v h e =
           ∙ sym (ap (λ (b : Binding). b.value) (view_get binding_in 0 3 (bound_of run) i words unbound h));
     }
 
-pub bound_none : (run words : List ℕ) (i : ℕ) → bound_of run ≤ i → BoundAt unbound.value run words i
+pub bound_none : (run : Run) (words : List ℕ) (i : ℕ) → bound_of run ≤ i → BoundAt unbound.value run words i
 bound_none run words i h =
     record {
       is =
@@ -139,7 +141,7 @@ bound_none run words i h =
 -- ---- another value for a binding
 
 -- the words of binding i with another value: its name is kept
-renewed : (run words bytes : List ℕ) (i : ℕ) (v : Value) → i < bound_of run → value_of (slot_of v).kind (slot_of v).payload ≡ v
+renewed : (run : Run) (words bytes : List ℕ) (i : ℕ) (v : Value) → i < bound_of run → value_of (slot_of v).kind (slot_of v).payload ≡ v
     → binding_in (slot_words v ++ drop 2 (rec_at 0 3 i words)) ≡ record { name = (get_or (store_of run words bytes).bindings i unbound).name; value = v }
 unfolding binding_in bindings_in store_of
 renewed run words bytes i v h back =
@@ -147,7 +149,7 @@ renewed run words bytes i v h back =
     (get_or-drop 2 (rec_at 0 3 i words) 0 0 ∙ sym (ap (λ (b : Binding). b.name) (view_get binding_in 0 3 (bound_of run) i words unbound h)))
     back
 
-pub rebind_some : (v : Value) (run words words' : List ℕ) (i : ℕ) → Fits run words → i < bound_of run → Put v (3 * i) words words'
+pub rebind_some : (v : Value) (run : Run) (words words' : List ℕ) (i : ℕ) → Fits run words → i < bound_of run → Put v (3 * i) words words'
     → BecameWords (λ σ. rebound σ i v) run words run words'
 rebind_some v run words words' i f h put bytes =
     subst (λ (w : List ℕ). Became (λ σ. rebound σ i v) run words bytes run w bytes) (sym put.stored)
@@ -155,7 +157,7 @@ rebind_some v run words words' i f h put bytes =
     (ap (λ (b : Binding). with_bindings (set (store_of run words bytes).bindings i b) (store_of run words bytes)) (renewed run words bytes i v h put.back))
     (one_anew bindings_counted run words i (3 * i) (slot_words v) f (omega arith) (omega arith) h bytes))
 
-pub rebind_none : (v : Value) (run words : List ℕ) (i : ℕ) → Fits run words → bound_of run ≤ i → BecameWords (λ σ. rebound σ i v) run words run words
+pub rebind_none : (v : Value) (run : Run) (words : List ℕ) (i : ℕ) → Fits run words → bound_of run ≤ i → BecameWords (λ σ. rebound σ i v) run words run words
 rebind_none v run words i f h bytes =
     record {
       store =
@@ -194,7 +196,7 @@ found_below name from to words i found =
 abbrev in_scope : ℕ → List ℕ → List ℕ → Option ℕ
 in_scope name run words = last_of name (scope_of run) (drop (scope_of run) (bindings_in (bound_of run) words))
 
-module _ (name : ℕ) (run words : List ℕ) (v : Value) (f : Fits run words) where
+module _ (name : ℕ) (run : Run) (words : List ℕ) (v : Value) (f : Fits run words) where
   pub declare_again : (i : ℕ) (words' : List ℕ) → Some i ≡ found_of (in_scope name run words) → Put v (3 * i) words words'
       → TriedWords true (λ σ. declared σ name v) run words run words'
   unfolding store_of declared
@@ -210,14 +212,14 @@ module _ (name : ℕ) (run words : List ℕ) (v : Value) (f : Fits run words) wh
         (rw (found_none (in_scope name run words) nowhere, length_part bindings_counted run words bytes, le-ltb (bound_of run) 256 full))
 
     pub declare_new : (words' : List ℕ) → bound_of run < 256 → Put v (3 * bound_of run) words words'
-        → TriedWords true (λ σ. declared σ name v) run words (set run 1 (bound_of run + 1)) (set words' (3 * bound_of run + 2) name)
+        → TriedWords true (λ σ. declared σ name v) run words (set_bound run (bound_of run + 1)) (set words' (3 * bound_of run + 2) name)
     unfolding store_of declared binding_in
     declare_new words' room put bytes =
         let n = bound_of run in
         let σ = store_of run words bytes in
         let ws = (slot_of v).payload ∷ (slot_of v).kind ∷ name ∷ [] in
         let stored : set words' (3 * n + 2) name ≡ sets words (3 * n) ws = ap₂ (λ (l : List ℕ) (k : ℕ). set l k name) put.stored (add-two (3 * n)) in
-        subst (λ (w : List ℕ). Tried true (λ τ. declared τ name v) run words bytes (set run 1 (n + 1)) w bytes) (sym stored)
+        subst (λ (w : List ℕ). Tried true (λ τ. declared τ name v) run words bytes (set_bound run (n + 1)) w bytes) (sym stored)
         (made (λ τ. declared τ name v) (λ τ. with_bindings (τ.bindings ++ (record { name = name; value = v } ∷ [])) τ)
         (rw (found_none (in_scope name run words) nowhere, length_part bindings_counted run words bytes, lt-ltb n 256 room))
         (became_as _ _ (ap (λ (u : Value). with_bindings (σ.bindings ++ (record { name = name; value = u } ∷ [])) σ) put.back)
@@ -295,7 +297,7 @@ module _ (bound first from i : ℕ) (words w : List ℕ) (room : bound + i < 256
       }
 
 -- so many that they reach to the last
-became_copied : (first from count : ℕ) (run words words' bytes : List ℕ) → Fits run words → Copied (bound_of run) first from count words words'
+became_copied : (first from count : ℕ) (run : Run) (words words' bytes : List ℕ) → Fits run words → Copied (bound_of run) first from count words words'
     → Became (with_bindings (bindings_in (bound_of run) words')) run words bytes run words' bytes
 unfolding store_of
 became_copied first from count run words words' bytes f copied =
@@ -304,7 +306,7 @@ became_copied first from count run words words' bytes f copied =
       kept =
           kept_same
           record {
-            run_length = f.run_length;
+
             words_length = omega (arith, f.words_length, copied.long);
             bindings = f.bindings;
             pending = f.pending;
@@ -313,7 +315,7 @@ became_copied first from count run words words' bytes f copied =
           };
     }
 
-module _ (first from count : ℕ) (run words : List ℕ) (f : Fits run words) (counted : count ≡ pending_of run - from) where
+module _ (first from count : ℕ) (run : Run) (words : List ℕ) (f : Fits run words) (counted : count ≡ pending_of run - from) where
   length_since : (bytes : List ℕ) → length (drop from (store_of run words bytes).pending) ≡ count
   length_since bytes =
       length-drop from (store_of run words bytes).pending ∙ ap (λ (n : ℕ). n - from) (length_part pending_counted run words bytes) ∙ sym counted
@@ -324,14 +326,14 @@ module _ (first from count : ℕ) (run words : List ℕ) (f : Fits run words) (c
       (rw (length_part bindings_counted run words bytes, length_since bytes, lt-ltb 256 (bound_of run + count) over))
 
   pub arguments_made : (words' : List ℕ) → bound_of run + count ≤ 256 → Copied (bound_of run) first from count words words'
-      → TriedWords true (arguments_bound first from) run words (set (set (set run 2 (bound_of run)) 3 (bound_of run)) 1 (bound_of run + count)) words'
+      → TriedWords true (arguments_bound first from) run words (set_bound (set_floor (set_scope run (bound_of run)) (bound_of run)) (bound_of run + count)) words'
   unfolding store_of bindings_in
   arguments_made words' room copied bytes =
       let n = bound_of run in
       let σ = store_of run words bytes in
       let now-copied = became_copied first from count run words words' bytes f copied in
-      let now-open = run_then (became_scope n run) (became_floor n (set run 2 n)) words' bytes now-copied.kept.fits in
-      let now-bound = recounted bindings_counted (set (set run 2 n) 3 n) words' (n + count) now-open.kept.fits room bytes in
+      let now-open = run_then (became_scope n run) (became_floor n (set_scope run n)) words' bytes now-copied.kept.fits in
+      let now-bound = recounted bindings_counted (set_floor (set_scope run n) n) words' (n + count) now-open.kept.fits room bytes in
       let all : drop from (pendings_in (from + count) words) ≡ drop from (pendings_in (pending_of run) words) =
       ap (λ (k : ℕ). drop from (pendings_in (from + k) words)) counted ∙ pendings_since from (pending_of run) words in
       made (arguments_bound first from) _

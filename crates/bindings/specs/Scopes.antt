@@ -5,12 +5,13 @@ use Rattle.rules.specs.declared.Value.{Value}
 use Rattle.rules.specs.Store.{Store, most_bindings, with_bindings, with_scope, with_floor, opened, closed, dropped, sought, bound_at, arguments}
 use Rattle.stores.specs.Finding.{found_of}
 use Rattle.stores.specs.Stores.{store_of, bindings_in, pendings_in, cells_in}
+use Rattle.stores.specs.declared.run.Run.{Run}
 
 -- what is sought and read does not depend on text
-pub record Sought (r : Option ℕ) (run words : List ℕ) (name : ℕ) : Type 0 where
+pub record Sought (r : Option ℕ) (run : Run) (words : List ℕ) (name : ℕ) : Type 0 where
   pub is : (bytes : List ℕ) → r ≡ found_of (sought (store_of run words bytes) name)
 
-pub record BoundAt (r : Value) (run words : List ℕ) (i : ℕ) : Type 0 where
+pub record BoundAt (r : Value) (run : Run) (words : List ℕ) (i : ℕ) : Type 0 where
   pub is : (bytes : List ℕ) → r ≡ bound_at (store_of run words bytes) i
 
 abbrev pub first_bindings : ℕ → Store → Store

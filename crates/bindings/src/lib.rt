@@ -10,7 +10,7 @@ ghost use Rattle.stores.specs.Stores.{Fits, BecameRun, BecameWords, TriedWords, 
 use rules::Value;
 use slots::{put_slot, value_of};
 use stores::pending::{drop_pending, pending_since};
-use stores::run::{BOUND, FLOOR, SCOPE};
+use stores::run::Run;
 
 // The last binding of a name, from number `from` up to `to`.
 fn last_of(words: &[u64], name: u64, from: usize, to: usize) -> Option<usize>
@@ -26,30 +26,30 @@ fn last_of(words: &[u64], name: u64, from: usize, to: usize) -> Option<usize>
 }
 
 // A name, from the innermost scope outward to the called function's argument scope.
-pub fn look_up(words: &[u64], run: &[u64; 16], name: u16) -> Option<usize>
+pub fn look_up(words: &[u64], run: &Run, name: u16) -> Option<usize>
     requires { Fits run.now words.now }
     ensures { Sought result run.now words.now name }
 {
-    last_of(words, name as u64, run[FLOOR] as usize, run[BOUND] as usize)
+    last_of(words, name as u64, run.floor as usize, run.bound as usize)
 }
 
 // The value of binding i; unit where there is none.
-pub fn bound_at(words: &[u64], run: &[u64; 16], i: usize) -> Value
+pub fn bound_at(words: &[u64], run: &Run, i: usize) -> Value
     requires { Fits run.now words.now }
     ensures { BoundAt result run.now words.now i }
 {
-    if i < run[BOUND] as usize {
+    if i < run.bound as usize {
         return value_of(words[3 * i + 1], words[3 * i]);
     }
     Value::Unit
 }
 
 // Another value for binding i, if there is one.
-pub fn rebind(words: &mut [u64], run: &[u64; 16], i: usize, v: Value)
+pub fn rebind(words: &mut [u64], run: &Run, i: usize, v: Value)
     requires { Fits run.now words.old }
     ensures { BecameWords (λ σ. rebound σ i v) run.now words.old run.now words.new }
 {
-    if i < run[BOUND] as usize {
+    if i < run.bound as usize {
         put_slot(words, 3 * i, v);
     }
 }
@@ -58,13 +58,13 @@ pub fn rebind(words: &mut [u64], run: &[u64; 16], i: usize, v: Value)
 const MOST_BINDINGS: u64 = 256;
 
 // A name bound in the innermost scope: a binding of that scope is replaced; false where a new one would be the 257th.
-pub fn declare(words: &mut [u64], run: &mut [u64; 16], name: u16, v: Value) -> bool
+pub fn declare(words: &mut [u64], run: &mut Run, name: u16, v: Value) -> bool
     requires { Fits run.old words.old }
     ensures { TriedWords result (λ σ. declared σ name v) run.old words.old run.new words.new }
 {
-    let count = run[BOUND];
+    let count = run.bound;
     let bound = count as usize;
-    if let Some(at) = last_of(words, name as u64, run[SCOPE] as usize, bound) {
+    if let Some(at) = last_of(words, name as u64, run.scope as usize, bound) {
         put_slot(words, 3 * at, v);
         return true;
     }
@@ -73,57 +73,57 @@ pub fn declare(words: &mut [u64], run: &mut [u64; 16], name: u16, v: Value) -> b
     }
     put_slot(words, 3 * bound, v);
     words[3 * bound + 2] = name as u64;
-    run[BOUND] = count + 1;
+    run.bound = count + 1;
     true
 }
 
 // A scope opened.
-pub fn open(run: &mut [u64; 16])
+pub fn open(run: &mut Run)
     ensures { BecameRun opened run.old run.new }
 {
-    run[SCOPE] = run[BOUND];
+    run.scope = run.bound;
 }
 
 // The bindings past the first `count` given back.
-fn keep(run: &mut [u64; 16], count: u64)
+fn keep(run: &mut Run, count: u64)
     ensures { BecameRun (first_bindings count) run.old run.new }
 {
-    if count < run[BOUND] {
-        run[BOUND] = count;
+    if count < run.bound {
+        run.bound = count;
     }
 }
 
 // The innermost scope emptied.
-pub fn empty(run: &mut [u64; 16])
+pub fn empty(run: &mut Run)
     ensures { BecameRun emptied run.old run.new }
 {
-    let scope = run[SCOPE];
+    let scope = run.scope;
     keep(run, scope);
 }
 
 // The innermost scope closed; the one before it begins at `scope`.
-pub fn close(run: &mut [u64; 16], scope: u64)
+pub fn close(run: &mut Run, scope: u64)
     ensures { BecameRun (closed scope) run.old run.new }
 {
-    let from = run[SCOPE];
+    let from = run.scope;
     break_out(run, scope, from);
 }
 
 // Every scope from binding `from` on dropped, as a break leaves them; the one before begins at `scope`.
-pub fn break_out(run: &mut [u64; 16], scope: u64, from: u64)
+pub fn break_out(run: &mut Run, scope: u64, from: u64)
     ensures { BecameRun (broken_out scope from) run.old run.new }
 {
     keep(run, from);
-    run[SCOPE] = scope;
+    run.scope = scope;
 }
 
 // A call's arguments, the pending items from `from` on, bound to consecutive names from `first` on in a scope of their own, below which no name is sought; all
 // or, where there would be more than 256 bindings, none.
-pub fn bind_arguments(words: &mut [u64], run: &mut [u64; 16], first: u16, from: u64) -> bool
+pub fn bind_arguments(words: &mut [u64], run: &mut Run, first: u16, from: u64) -> bool
     requires { Fits run.old words.old }
     ensures { TriedWords result (arguments_bound first from) run.old words.old run.new words.new }
 {
-    let bound = run[BOUND];
+    let bound = run.bound;
     let count = pending_since(run, from);
     if MOST_BINDINGS < bound + count {
         return false;
@@ -135,9 +135,9 @@ pub fn bind_arguments(words: &mut [u64], run: &mut [u64; 16], first: u16, from: 
         from as usize,
         count as usize,
     );
-    run[SCOPE] = bound;
-    run[FLOOR] = bound;
-    run[BOUND] = bound + count;
+    run.scope = bound;
+    run.floor = bound;
+    run.bound = bound + count;
     true
 }
 
@@ -158,10 +158,10 @@ fn copy_arguments(words: &mut [u64], bound: usize, first: u64, from: usize, coun
 }
 
 // A call ended: its argument scope closed, its arguments no longer pending, and the caller's scope and floor as they were.
-pub fn end_call(run: &mut [u64; 16], scope: u64, floor: u64, pending: u64)
+pub fn end_call(run: &mut Run, scope: u64, floor: u64, pending: u64)
     ensures { BecameRun (call_ended scope floor pending) run.old run.new }
 {
     close(run, scope);
-    run[FLOOR] = floor;
+    run.floor = floor;
     drop_pending(run, pending);
 }
