@@ -1,4 +1,5 @@
 pub mod Run
+pub mod Lent
 pub mod View
 pub mod Stores
 pub mod Finding
