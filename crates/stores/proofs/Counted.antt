@@ -4,7 +4,7 @@ use mathlib.Core.List.{List, [], ◌∷◌, ◌++◌}
 use Prim.Native.Nat.{ℕ, suc, ◌+◌, ◌*◌, ◌≤◌, ◌<◌}
 use native.Mathlib.Nat.{mul-le-mul_left, mul-suc}
 use native.Mathlib.Omega.{arith}
-use lib.ListN.{length, get_or, set, take, drop}
+use lib.ListN.{length, set, take, drop}
 use lib.Seq.{sets, take_all}
 use Rattle.rules.specs.declared.Value.{Value}
 use Rattle.rules.specs.Store.{Cell, Store, Binding, most_bindings, most_pending, most_cells, with_bindings, with_pending, with_cells}

@@ -4,7 +4,7 @@ use mathlib.Core.Bool.{true, false}
 use mathlib.Core.List.{List, [], ◌∷◌, ◌++◌}
 use Prim.Native.Nat.{ℕ, ◌+◌, ◌*◌, ◌≤◌, ◌<◌, ◌-◌}
 use borrow.Author.Tests.{lt-ltb, le-ltb}
-use lib.ListN.{set, length, get_or, drop, drop_of_length-le}
+use lib.ListN.{length, get_or, drop, drop_of_length-le}
 use Rattle.rules.specs.declared.Value.{Value}
 use Rattle.rules.specs.Store.{with_pending, pushed}
 use Rattle.slots.specs.Slot.{slot_words, Put, value_of}

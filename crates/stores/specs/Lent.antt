@@ -12,11 +12,11 @@ use Rattle.stores.specs.Stores.{store_of, Became, Tried, Makes}
 abbrev pub seen : Stores → Store
 seen s = store_of s.run s.words.now s.bytes.now
 
-abbrev pub Became_ : (Store → Store) → Stores → Stores → Type 0
-Became_ f s s' = Became f s.run s.words.now s.bytes.now s'.run s'.words.now s'.bytes.now
+abbrev pub StoresBecame : (Store → Store) → Stores → Stores → Type 0
+StoresBecame f s s' = Became f s.run s.words.now s.bytes.now s'.run s'.words.now s'.bytes.now
 
-abbrev pub Tried_ : Bool → (Store → Option Store) → Stores → Stores → Type 0
-Tried_ r f s s' = Tried r f s.run s.words.now s.bytes.now s'.run s'.words.now s'.bytes.now
+abbrev pub StoresTried : Bool → (Store → Option Store) → Stores → Stores → Type 0
+StoresTried r f s s' = Tried r f s.run s.words.now s.bytes.now s'.run s'.words.now s'.bytes.now
 
-abbrev pub Makes_ : Result Value Refused → (Store → Made) → Stores → Stores → Type 0
-Makes_ r f s s' = Makes r f s.run s.words.now s.bytes.now s'.run s'.words.now s'.bytes.now
+abbrev pub StoresMade : Result Value Refused → (Store → Made) → Stores → Stores → Type 0
+StoresMade r f s s' = Makes r f s.run s.words.now s.bytes.now s'.run s'.words.now s'.bytes.now

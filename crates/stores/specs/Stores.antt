@@ -1,5 +1,5 @@
 -- The store of the rules as it stands in the lent words and bytes, and what a change of it promises. docs/STORES.md has the layout as a table.
-use Rattle.std.specs.Prelude.{ℕ, ◌/◌, ◌%◌, ◌≤◌, ◌≡◌, Bool, false, cond, List, eqb, length, get_or, take}
+use Rattle.std.specs.Prelude.{ℕ, ◌/◌, ◌%◌, ◌≤◌, ◌≡◌, Bool, false, cond, List, Result, Ok, Err, eqb, length, get_or, take}
 use Rattle.std.proofs.Math.Option.{Option, some, none}
 use Rattle.rules.specs.declared.Value.{Value}
 use Rattle.rules.specs.declared.Refused.{Refused}

@@ -3,7 +3,7 @@ ghost use Rattle.std.specs.Prelude.{◌≡◌, ◌-◌, ◌<◌};
 ghost use Rattle.stores.specs.View.{rec_at};
 ghost use Rattle.stores.specs.Pending.{pushed_if_room};
 ghost use Rattle.stores.specs.Stores.{pending_in};
-ghost use Rattle.stores.specs.Lent.{Became_, Tried_};
+ghost use Rattle.stores.specs.Lent.{StoresBecame, StoresTried};
 ghost use Rattle.rules.specs.Store.{dropped};
 
 use crate::lent::Stores;
@@ -15,7 +15,7 @@ const MOST_PENDING: u64 = 512;
 
 // One pending item more; false where there are 512.
 pub fn push(stores: &mut Stores, v: Value) -> bool
-    ensures { Tried_ result (pushed_if_room v) stores.old stores.new }
+    ensures { StoresTried result (pushed_if_room v) stores.old stores.new }
 {
     let count = stores.run.pending;
     if MOST_PENDING <= count {
@@ -44,7 +44,7 @@ pub fn pending_since(stores: &Stores, from: u64) -> u64
 
 // Those past the first `count` given back.
 pub fn drop_pending(stores: &mut Stores, count: u64)
-    ensures { Became_ (dropped count) stores.old stores.new }
+    ensures { StoresBecame (dropped count) stores.old stores.new }
 {
     if count < stores.run.pending {
         stores.run.pending = count;
