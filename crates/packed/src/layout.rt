@@ -1,6 +1,6 @@
 // The header and the records by their fields, and the places of the four regions.
-ghost use Rattle.std.specs.Prelude.{◌≡◌, ◌≤◌, ◌<◌, length};
-ghost use Rattle.packed.specs.Layout.{header_of, nodes_at, literals_at, text_at, size_of, function_at, node_at, literal_at, part_at};
+ghost use Rattle.std.specs.Prelude.{◌≡◌, ◌≤◌, length};
+ghost use Rattle.packed.specs.Layout.{header_of, nodes_at, literals_at, text_at, size_of};
 
 use fields::{cut, number_at};
 
@@ -86,59 +86,4 @@ pub fn size_of(h: Header) -> usize
     ensures { result ≡ size_of h }
 {
     text_at(h) + usize::from(h.text)
-}
-
-// The records of an image that is as long as its header says. Functions and literals count from 0, nodes from 1.
-pub fn function_at(image: &[u8], h: Header, f: usize) -> Function
-    requires { (f < h.functions) × (size_of h ≤ length image.now) }
-    ensures { result ≡ function_at image.now f }
-{
-    let w = number_at::<4>(image, 8 + 4 * f);
-    Function {
-        body: cut(w, 20, 12) as u16,
-        count: cut(w, 16, 4) as u8,
-        first: cut(w, 6, 10) as u16,
-        zero: cut(w, 0, 6) as u8,
-    }
-}
-
-pub fn node_at(image: &[u8], h: Header, n: usize) -> Node
-    requires { (1 ≤ n) × (n ≤ h.nodes) × (size_of h ≤ length image.now) }
-    ensures { result ≡ node_at image.now h n }
-{
-    let w = number_at::<8>(image, nodes_at(h) + 8 * (n - 1));
-    Node {
-        kind: cut(w, 59, 5) as u8,
-        op: cut(w, 55, 4) as u8,
-        tag: cut(w, 45, 10) as u16,
-        a: cut(w, 33, 12) as u16,
-        b: cut(w, 21, 12) as u16,
-        next: cut(w, 9, 12) as u16,
-        zero: cut(w, 0, 9) as u16,
-    }
-}
-
-pub fn literal_at(image: &[u8], h: Header, l: usize) -> Literal
-    requires { (l < h.literals) × (size_of h ≤ length image.now) }
-    ensures { result ≡ literal_at image.now h l }
-{
-    let at = literals_at(h) + 10 * l;
-    let w = number_at::<2>(image, at);
-    Literal {
-        kind: cut(w, 12, 4) as u8,
-        zero: cut(w, 0, 12) as u16,
-        payload: number_at::<8>(image, at + 2),
-    }
-}
-
-pub fn part_at(image: &[u8], h: Header, l: usize) -> Part
-    requires { (l < h.literals) × (size_of h ≤ length image.now) }
-    ensures { result ≡ part_at image.now h l }
-{
-    let w = number_at::<8>(image, literals_at(h) + 10 * l + 2);
-    Part {
-        zero: cut(w, 32, 32) as u32,
-        start: cut(w, 16, 16) as u16,
-        length: cut(w, 0, 16) as u16,
-    }
 }

@@ -4,15 +4,15 @@ use Prim.Native.Nat.{ℕ, ◌+◌, ◌-◌, ◌*◌}
 use Rattle.fields.proofs.Laws.{cut_field}
 use Rattle.packed.specs.Layout.{node_at, node_offset}
 use Rattle.fields.specs.Field.{field_of}
-use Rattle.packed.proofs.layout.node_at.Goals as goal
+use Rattle.packed.proofs.image.Image.node.Goals as goal
 
 pub returns : goal.returns
 unfolding node_at
 returns c =
     let a = c.args in
     let w = c.number_at-w in
-    let there = w.ensures.0 ∙ ap (λ (m : ℕ). field_of a.image.now (8 * (m + 8 * (a.n - 1))) 64) c.nodes_at.ensures in
-    let f = cut_field 64 a.image.now (8 * node_offset a.h a.n) w.result in
+    let there = w.ensures.0 ∙ ap (λ (m : ℕ). field_of a.self.now.bytes.now (8 * (m + 8 * (a.n - 1))) 64) c.nodes_at.ensures in
+    let f = cut_field 64 a.self.now.bytes.now (8 * node_offset a.self.now.header a.n) w.result in
     λ i.
     record {
       kind = f 0 5 59 c.cut.result there refl c.cut.ensures.0 i;

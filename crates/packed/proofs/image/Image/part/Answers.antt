@@ -4,15 +4,15 @@ use Prim.Native.Nat.{ℕ, ◌+◌, ◌*◌}
 use Rattle.fields.specs.Field.{field_of}
 use Rattle.fields.proofs.Laws.{cut_field}
 use Rattle.packed.specs.Layout.{part_at, literal_offset}
-use Rattle.packed.proofs.layout.part_at.Goals as goal
+use Rattle.packed.proofs.image.Image.part.Goals as goal
 
 pub returns : goal.returns
 unfolding part_at
 returns c =
     let a = c.args in
     let w = c.number_at-w in
-    let there = w.ensures.0 ∙ ap (λ (m : ℕ). field_of a.image.now (8 * (m + 10 * a.l + 2)) 64) c.literals_at.ensures in
-    let f = cut_field 64 a.image.now (8 * (literal_offset a.h a.l + 2)) w.result in
+    let there = w.ensures.0 ∙ ap (λ (m : ℕ). field_of a.self.now.bytes.now (8 * (m + 10 * a.l + 2)) 64) c.literals_at.ensures in
+    let f = cut_field 64 a.self.now.bytes.now (8 * (literal_offset a.self.now.header a.l + 2)) w.result in
     λ i.
     record {
       zero = f 0 32 32 c.cut.result there refl c.cut.ensures.0 i;

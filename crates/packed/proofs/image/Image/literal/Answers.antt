@@ -5,7 +5,7 @@ use native.Mathlib.Omega.{arith}
 use Rattle.fields.specs.Field.{field_of}
 use Rattle.fields.proofs.Laws.{cut_field}
 use Rattle.packed.specs.Layout.{literal_at, literal_offset}
-use Rattle.packed.proofs.layout.literal_at.Goals as goal
+use Rattle.packed.proofs.image.Image.literal.Goals as goal
 
 pub returns : goal.returns
 unfolding literal_at
@@ -13,10 +13,10 @@ returns c =
     let p = c.number_at-w in
     let l = c.literals_at in
     let a = c.args in
-    let image = a.image.now in
+    let image = a.self.now.bytes.now in
     let there = p.ensures.0 ∙ ap (λ (m : ℕ). field_of image (8 * (m + 10 * a.l)) 16) l.ensures in
-    let f = cut_field 16 image (8 * literal_offset a.h a.l) p.result in
-    let past : 8 * (l.result + 10 * a.l + 2) ≡ 8 * literal_offset a.h a.l + 16 = omega (arith, l.ensures) in
+    let f = cut_field 16 image (8 * literal_offset a.self.now.header a.l) p.result in
+    let past : 8 * (l.result + 10 * a.l + 2) ≡ 8 * literal_offset a.self.now.header a.l + 16 = omega (arith, l.ensures) in
     λ i.
     record {
       kind = f 0 4 12 c.cut.result there refl c.cut.ensures.0 i;

@@ -3,14 +3,14 @@ use mathlib.Core.Path.{refl}
 use Prim.Native.Nat.{◌*◌}
 use Rattle.fields.proofs.Laws.{cut_field}
 use Rattle.packed.specs.Layout.{function_at, function_offset}
-use Rattle.packed.proofs.layout.function_at.Goals as goal
+use Rattle.packed.proofs.image.Image.function.Goals as goal
 
 pub returns : goal.returns
 unfolding function_at
 returns c =
     let a = c.args in
     let w = c.number_at-w in
-    let f = cut_field 32 a.image.now (8 * function_offset a.f) w.result in
+    let f = cut_field 32 a.self.now.bytes.now (8 * function_offset a.f) w.result in
     λ i.
     record {
       body = f 0 12 20 c.cut.result w.ensures.0 refl c.cut.ensures.0 i;
