@@ -4,15 +4,13 @@
 ghost use Rattle.std.specs.Prelude.{◌≡◌, ◌+◌, ◌≤◌, ◌<◌, length, ltb, eqb, true, ◌&&◌};
 ghost use Rattle.utf8.specs.Utf8.{utf8_of};
 ghost use Rattle.utf8.specs.Runs.{Stops};
-ghost use Rattle.packed.specs.Layout.{size_of, literal_at};
+ghost use Rattle.packed.specs.Layout.{literal_at};
 ghost use Rattle.kinds.specs.Kinds.{tag_role};
 ghost use Rattle.records.specs.Records.{is_node, function_good, fits as fits_of, node_good, is_scalar, image_text, part_good, part_of, payload_good, literal_good, record_good, record_offset, records_in, bad_record};
 
 use kinds::{Role, row_of};
-use packed::layout::{
-    Function, Header, Node, Part, function_at, literal_at, literals_at, node_at, nodes_at, part_at,
-    size_of, text_at,
-};
+use packed::image::Image;
+use packed::layout::{Function, Header, Node, Part, literals_at, nodes_at, text_at};
 use utf8::{is_utf8, stops_of};
 
 pub fn is_node(x: u16, nodes: u16) -> bool
@@ -33,30 +31,28 @@ fn function_good(h: Header, f: Function) -> bool
         && f.zero == 0
 }
 
-fn is_text(image: &[u8], h: Header, l: u16) -> bool
-    requires { size_of h ≤ length image.now }
-    ensures { result ≡ ltb l h.literals && eqb (literal_at image.now h l).kind 6 }
+fn is_text(image: &Image, l: u16) -> bool
+    ensures { result ≡ ltb l image.now.header.literals && eqb (literal_at image.now.bytes.now image.now.header l).kind 6 }
 {
-    l < h.literals && literal_at(image, h, usize::from(l)).kind == 6
+    l < image.header.literals && image.literal(usize::from(l)).kind == 6
 }
 
 // Whether a field holds what its role asks.
 #[tactic(auto, unfolding(crate::specs::Records::fits))]
-fn fits(image: &[u8], h: Header, role: Role, x: u16) -> bool
-    requires { size_of h ≤ length image.now }
-    ensures { result ≡ fits_of image.now h role x }
+fn fits(image: &Image, role: Role, x: u16) -> bool
+    ensures { result ≡ fits_of image.now.bytes.now image.now.header role x }
 {
     match role {
         Role::Unlisted => x == 0,
         Role::Number => true,
-        Role::Literal => x < h.literals,
-        Role::Text => is_text(image, h, x),
-        Role::Function => x < u16::from(h.functions),
+        Role::Literal => x < image.header.literals,
+        Role::Text => is_text(image, x),
+        Role::Function => x < u16::from(image.header.functions),
         Role::Node(needed, _, _) => {
             if needed {
-                is_node(x, h.nodes)
+                is_node(x, image.header.nodes)
             } else {
-                x <= h.nodes
+                x <= image.header.nodes
             }
         }
     }
@@ -74,17 +70,16 @@ fn tag_role(kind: u8, op: u8) -> Role
 }
 
 #[tactic(auto, unfolding(crate::specs::Records::node_good))]
-fn node_good(image: &[u8], h: Header, d: Node) -> bool
-    requires { size_of h ≤ length image.now }
-    ensures { result ≡ node_good image.now h d }
+fn node_good(image: &Image, d: Node) -> bool
+    ensures { result ≡ node_good image.now.bytes.now image.now.header d }
 {
     let line = row_of(d.kind);
     d.op < line.ops
         && d.zero == 0
-        && d.next <= h.nodes
-        && fits(image, h, tag_role(d.kind, d.op), d.tag)
-        && fits(image, h, line.a, d.a)
-        && fits(image, h, line.b, d.b)
+        && d.next <= image.header.nodes
+        && fits(image, tag_role(d.kind, d.op), d.tag)
+        && fits(image, line.a, d.a)
+        && fits(image, line.b, d.b)
 }
 
 fn is_scalar(x: u64) -> bool
@@ -100,27 +95,27 @@ fn part_good(h: Header, p: Part) -> bool
     p.zero == 0 && usize::from(p.start) + usize::from(p.length) <= usize::from(h.text)
 }
 
-fn part_is_utf8(image: &[u8], h: Header, stops: &[u32; 1024], p: Part) -> bool
-    requires { (part_good h p ≡ true) × (size_of h ≤ length image.now) × Stops (image_text image.now h) stops.now }
-    ensures { result ≡ utf8_of (part_of image.now h p) }
+// What stands after the records.
+fn text<'a>(image: &'a Image) -> &'a [u8]
+    ensures bytes { result.now ≡ image_text image.now.bytes.now image.now.header }
+    ensures length { length result.now ≤ 65535 }
 {
-    let at = text_at(h);
-    let end = size_of(h);
+    let at = text_at(image.header);
+    &image.bytes[at..at + usize::from(image.header.text)]
+}
+
+fn part_is_utf8(image: &Image, stops: &[u32; 1024], p: Part) -> bool
+    requires { (part_good image.now.header p ≡ true) × Stops (image_text image.now.bytes.now image.now.header) stops.now }
+    ensures { result ≡ utf8_of (part_of image.now.bytes.now image.now.header p) }
+{
     let from = usize::from(p.start);
-    is_utf8(&image[at..end], stops, from, from + usize::from(p.length))
+    is_utf8(text(image), stops, from, from + usize::from(p.length))
 }
 
 #[tactic(auto, unfolding(crate::specs::Records::payload_good))]
-fn payload_good(
-    image: &[u8],
-    h: Header,
-    stops: &[u32; 1024],
-    l: usize,
-    kind: u8,
-    payload: u64,
-) -> bool
-    requires { (l < h.literals) × (size_of h ≤ length image.now) × Stops (image_text image.now h) stops.now }
-    ensures { result ≡ payload_good image.now h l kind payload }
+fn payload_good(image: &Image, stops: &[u32; 1024], l: usize, kind: u8, payload: u64) -> bool
+    requires { (l < image.now.header.literals) × Stops (image_text image.now.bytes.now image.now.header) stops.now }
+    ensures { result ≡ payload_good image.now.bytes.now image.now.header l kind payload }
 {
     match kind {
         0 => payload == 0,
@@ -128,38 +123,38 @@ fn payload_good(
         2..=4 => true,
         5 => is_scalar(payload),
         6 => {
-            let p = part_at(image, h, l);
-            part_good(h, p) && part_is_utf8(image, h, stops, p)
+            let p = image.part(l);
+            part_good(image.header, p) && part_is_utf8(image, stops, p)
         }
-        7 => part_good(h, part_at(image, h, l)),
+        7 => part_good(image.header, image.part(l)),
         _ => false,
     }
 }
 
 #[tactic(auto, unfolding(crate::specs::Records::literal_good))]
-fn literal_good(image: &[u8], h: Header, stops: &[u32; 1024], l: usize) -> bool
-    requires { (l < h.literals) × (size_of h ≤ length image.now) × Stops (image_text image.now h) stops.now }
-    ensures { result ≡ literal_good image.now h l }
+fn literal_good(image: &Image, stops: &[u32; 1024], l: usize) -> bool
+    requires { (l < image.now.header.literals) × Stops (image_text image.now.bytes.now image.now.header) stops.now }
+    ensures { result ≡ literal_good image.now.bytes.now image.now.header l }
 {
-    let d = literal_at(image, h, l);
-    d.zero == 0 && payload_good(image, h, stops, l, d.kind, d.payload)
+    let d = image.literal(l);
+    d.zero == 0 && payload_good(image, stops, l, d.kind, d.payload)
 }
 
 // Record r of the image, counted from 0 through functions, nodes and literals.
 #[tactic(auto, unfolding(crate::specs::Records::record_good))]
-fn record_good(image: &[u8], h: Header, stops: &[u32; 1024], r: usize) -> bool
-    requires { (r < records_in h) × (size_of h ≤ length image.now) × Stops (image_text image.now h) stops.now }
-    ensures { result ≡ record_good image.now h r }
+fn record_good(image: &Image, stops: &[u32; 1024], r: usize) -> bool
+    requires { (r < records_in image.now.header) × Stops (image_text image.now.bytes.now image.now.header) stops.now }
+    ensures { result ≡ record_good image.now.bytes.now image.now.header r }
 {
-    let functions = usize::from(h.functions);
-    let nodes = usize::from(h.nodes);
+    let functions = usize::from(image.header.functions);
+    let nodes = usize::from(image.header.nodes);
     if r < functions {
-        return function_good(h, function_at(image, h, r));
+        return function_good(image.header, image.function(r));
     }
     if r - functions < nodes {
-        return node_good(image, h, node_at(image, h, r - functions + 1));
+        return node_good(image, image.node(r - functions + 1));
     }
-    literal_good(image, h, stops, r - functions - nodes)
+    literal_good(image, stops, r - functions - nodes)
 }
 
 #[tactic(auto, unfolding(crate::specs::Records::record_offset))]
@@ -179,25 +174,23 @@ fn record_offset(h: Header, r: usize) -> usize
 }
 
 // They are made once for the whole text: literals may all name the same bytes.
-fn text_stops(image: &[u8], h: Header) -> [u32; 1024]
-    requires { size_of h ≤ length image.now }
-    ensures { Stops (image_text image.now h) result }
+fn text_stops(image: &Image) -> [u32; 1024]
+    ensures { Stops (image_text image.now.bytes.now image.now.header) result }
 {
-    let at = text_at(h);
-    let end = size_of(h);
-    stops_of(&image[at..end])
+    stops_of(text(image))
 }
 
 // Where the first bad record stands.
-pub fn bad_record(image: &[u8], h: Header) -> Option<usize>
-    requires { size_of h ≤ length image.now }
-    ensures { result ≡ bad_record image.now h }
+pub fn bad_record(image: &Image) -> Option<usize>
+    ensures { result ≡ bad_record image.now.bytes.now image.now.header }
 {
-    let records = usize::from(h.functions) + usize::from(h.nodes) + usize::from(h.literals);
-    let stops = text_stops(image, h);
+    let records = usize::from(image.header.functions)
+        + usize::from(image.header.nodes)
+        + usize::from(image.header.literals);
+    let stops = text_stops(image);
     for r in 0..records {
-        if !record_good(image, h, &stops, r) {
-            return Some(record_offset(h, r));
+        if !record_good(image, &stops, r) {
+            return Some(record_offset(image.header, r));
         }
     }
     None

@@ -5,4 +5,4 @@ use Rattle.records.specs.Records.{record_bad, records_in}
 use Rattle.records.proofs.bad_record.Given as goal
 
 abbrev pub invariant-loop-r : goal.invariant-loop-r
-invariant-loop-r l = first_from (record_bad l.image l.h) 0 (records_in l.h) ≡ first_from (record_bad l.image l.h) l.r (records_in l.h - l.r)
+invariant-loop-r l = first_from (record_bad l.image.bytes.now l.image.header) 0 (records_in l.image.header) ≡ first_from (record_bad l.image.bytes.now l.image.header) l.r (records_in l.image.header - l.r)
