@@ -8,7 +8,8 @@ ghost use Rattle.kinds.specs.Kinds.{is_of};
 ghost use Rattle.records.specs.Records.{node_good};
 
 use kinds::{Class, Role, is_expression, is_of, is_part, row_of};
-use packed::layout::{Header, Node, function_at, node_at};
+use packed::image::Image;
+use packed::layout::{Header, Node};
 
 // What the passes over the image leave for each node: how often it is named, how often as a body, and the kind of the node in
 // whose chain it stands.
@@ -79,25 +80,25 @@ fn mark_node(chains: &mut [u8; 4096], n: u16, d: Node)
     mark(chains, n, d.a, heading(d.kind, row_of(d.kind).a));
 }
 
-fn count_bodies(image: &[u8], h: Header, names: &mut [u8; 4096], bodies: &mut [u8; 4096])
-    requires { (size_of h ≤ length image.now) × (length names.old ≡ 4096) × (length bodies.old ≡ 4096) }
-    ensures of_names { Added names.old names.new (bodies_of image.now h.functions) }
-    ensures of_bodies { Added bodies.old bodies.new (bodies_of image.now h.functions) }
+fn count_bodies(image: &Image, names: &mut [u8; 4096], bodies: &mut [u8; 4096])
+    requires { (length names.old ≡ 4096) × (length bodies.old ≡ 4096) }
+    ensures of_names { Added names.old names.new (bodies_of image.now.bytes.now image.now.header.functions) }
+    ensures of_bodies { Added bodies.old bodies.new (bodies_of image.now.bytes.now image.now.header.functions) }
 {
-    for f in 0..usize::from(h.functions) {
-        let d = function_at(image, h, f);
+    for f in 0..usize::from(image.header.functions) {
+        let d = image.function(f);
         bump(names, d.body);
         bump(bodies, d.body);
     }
 }
 
-fn survey(image: &[u8], h: Header, names: &mut [u8; 4096], chains: &mut [u8; 4096])
-    requires { (h.nodes < 4096) × (size_of h ≤ length image.now) × (length names.old ≡ 4096) × Holds chains.old (λ m. 0) }
-    ensures of_names { Added names.old names.new (node_names image.now h h.nodes) }
-    ensures of_chains { Holds chains.new (chain_by image.now h h.nodes) }
+fn survey(image: &Image, names: &mut [u8; 4096], chains: &mut [u8; 4096])
+    requires { (image.now.header.nodes < 4096) × (length names.old ≡ 4096) × Holds chains.old (λ m. 0) }
+    ensures of_names { Added names.old names.new (node_names image.now.bytes.now image.now.header image.now.header.nodes) }
+    ensures of_chains { Holds chains.new (chain_by image.now.bytes.now image.now.header image.now.header.nodes) }
 {
-    for n in 1..=h.nodes {
-        let d = node_at(image, h, usize::from(n));
+    for n in 1..=image.header.nodes {
+        let d = image.node(usize::from(n));
         name_node(names, d);
         mark_node(chains, n, d);
     }
@@ -105,27 +106,27 @@ fn survey(image: &[u8], h: Header, names: &mut [u8; 4096], chains: &mut [u8; 409
 
 // Whether what node n names in a field of that role goes to a greater number and to a kind that fits.
 #[tactic(auto, unfolding(crate::specs::Tree::goes))]
-fn goes(image: &[u8], h: Header, n: u16, role: Role, x: u16) -> bool
-    requires { (named_of role x ≤ h.nodes) × (size_of h ≤ length image.now) }
-    ensures { result ≡ goes_of image.now h n role x }
+fn goes(image: &Image, n: u16, role: Role, x: u16) -> bool
+    requires { named_of role x ≤ image.now.header.nodes }
+    ensures { result ≡ goes_of image.now.bytes.now image.now.header n role x }
 {
     match role {
         Role::Unlisted => x == 0,
         Role::Node(_, _, class) => {
-            x == 0 || (n < x && is_of(class, node_at(image, h, usize::from(x)).kind))
+            x == 0 || (n < x && is_of(class, image.node(usize::from(x)).kind))
         }
         _ => true,
     }
 }
 
 // The parts of the target at node n, counted no further than 65.
-fn parts(image: &[u8], h: Header, n: u16) -> u8
-    requires { (1 ≤ n) × (n ≤ h.nodes) × (size_of h ≤ length image.now) × GoodNodes image.now h }
-    ensures { result ≡ parts_of image.now h 65 n }
+fn parts(image: &Image, n: u16) -> u8
+    requires { (1 ≤ n) × (n ≤ image.now.header.nodes) × GoodNodes image.now.bytes.now image.now.header }
+    ensures { result ≡ parts_of image.now.bytes.now image.now.header 65 n }
 {
     let mut at = n;
     for count in 0..65u8 {
-        let d = node_at(image, h, usize::from(at));
+        let d = image.node(usize::from(at));
         if !is_part(d.kind) {
             return count;
         }
@@ -139,14 +140,14 @@ fn parts(image: &[u8], h: Header, n: u16) -> u8
 
 // Whether node n names well: what its a, its b and its next go to.
 #[tactic(auto, unfolding(crate::specs::Tree::names_well))]
-fn names_well(image: &[u8], h: Header, n: u16, d: Node, chain: u8) -> bool
-    requires { (size_of h ≤ length image.now) × (node_good image.now h d ≡ true) }
-    ensures { result ≡ names_well image.now h n chain d }
+fn names_well(image: &Image, n: u16, d: Node, chain: u8) -> bool
+    requires { node_good image.now.bytes.now image.now.header d ≡ true }
+    ensures { result ≡ names_well image.now.bytes.now image.now.header n chain d }
 {
     let line = row_of(d.kind);
-    goes(image, h, n, line.a, d.a)
-        && goes(image, h, n, line.b, d.b)
-        && goes(image, h, n, row_of(chain).a, d.next)
+    goes(image, n, line.a, d.a)
+        && goes(image, n, line.b, d.b)
+        && goes(image, n, row_of(chain).a, d.next)
 }
 
 fn is_root_well(h: Header, n: u16, kind: u8) -> bool
@@ -176,23 +177,23 @@ fn is_named_well(h: Header, n: u16, kind: u8, times: u8, as_body: u8) -> bool
 const MOST_PARTS: u8 = 64;
 
 #[tactic(auto, unfolding(crate::specs::Tree::node_right))]
-fn node_right(image: &[u8], h: Header, n: u16, found: &Findings) -> bool
-    requires { (1 ≤ n) × (n ≤ h.nodes) × (size_of h ≤ length image.now) × GoodNodes image.now h × Surveyed image.now h found.now.names found.now.bodies found.now.chains }
-    ensures { result ≡ node_right image.now h n (node_at image.now h n) }
+fn node_right(image: &Image, n: u16, found: &Findings) -> bool
+    requires { (1 ≤ n) × (n ≤ image.now.header.nodes) × GoodNodes image.now.bytes.now image.now.header × Surveyed image.now.bytes.now image.now.header found.now.names found.now.bodies found.now.chains }
+    ensures { result ≡ node_right image.now.bytes.now image.now.header n (node_at image.now.bytes.now image.now.header n) }
 {
     let at = usize::from(n);
-    let d = node_at(image, h, at);
-    names_well(image, h, n, d, found.chains[at])
-        && parts(image, h, n) <= MOST_PARTS
-        && is_named_well(h, n, d.kind, found.names[at], found.bodies[at])
+    let d = image.node(at);
+    names_well(image, n, d, found.chains[at])
+        && parts(image, n) <= MOST_PARTS
+        && is_named_well(image.header, n, d.kind, found.names[at], found.bodies[at])
 }
 
-fn first_wrong(image: &[u8], h: Header, found: &Findings) -> Option<usize>
-    requires { (size_of h ≤ length image.now) × GoodNodes image.now h × Surveyed image.now h found.now.names found.now.bodies found.now.chains }
-    ensures { result ≡ lowest_fault image.now h }
+fn first_wrong(image: &Image, found: &Findings) -> Option<usize>
+    requires { GoodNodes image.now.bytes.now image.now.header × Surveyed image.now.bytes.now image.now.header found.now.names found.now.bodies found.now.chains }
+    ensures { result ≡ lowest_fault image.now.bytes.now image.now.header }
 {
-    for n in 1..=h.nodes {
-        if !node_right(image, h, n, found) {
+    for n in 1..=image.header.nodes {
+        if !node_right(image, n, found) {
             return Some(usize::from(n));
         }
     }
@@ -200,17 +201,17 @@ fn first_wrong(image: &[u8], h: Header, found: &Findings) -> Option<usize>
 }
 
 // The lowest node at fault, in an image whose records are good.
-pub fn lowest_fault(image: &[u8], h: Header) -> Option<usize>
-    requires { (h.root < 4096) × (size_of h ≤ length image.now) × GoodNodes image.now h }
-    ensures { result ≡ lowest_fault image.now h }
+pub fn lowest_fault(image: &Image) -> Option<usize>
+    requires { (image.now.header.root < 4096) × GoodNodes image.now.bytes.now image.now.header }
+    ensures { result ≡ lowest_fault image.now.bytes.now image.now.header }
 {
     let mut found = Findings {
         names: [0; 4096],
         bodies: [0; 4096],
         chains: [0; 4096],
     };
-    bump(&mut found.names, h.root);
-    count_bodies(image, h, &mut found.names, &mut found.bodies);
-    survey(image, h, &mut found.names, &mut found.chains);
-    first_wrong(image, h, &found)
+    bump(&mut found.names, image.header.root);
+    count_bodies(image, &mut found.names, &mut found.bodies);
+    survey(image, &mut found.names, &mut found.chains);
+    first_wrong(image, &found)
 }

@@ -17,15 +17,15 @@ unfolding bodies
 loop-f-init c = (added_none _, added_none _)
 
 pub bump-requires : goal.bump-requires
-bump-requires c = (body_below _ _ c.function_at-d.result c.function_at-d.ensures, c.loop-f.invariant.0.long ∙ c.requires.1)
+bump-requires c = (body_below _ _ c.function-d.result c.function-d.ensures, c.loop-f.invariant.0.long ∙ c.requires.0)
 
 pub bump-requires-in-loop-f : goal.bump-requires-in-loop-f
-bump-requires-in-loop-f c = (body_below _ _ c.function_at-d.result c.function_at-d.ensures, c.loop-f.invariant.1.long ∙ c.requires.2)
+bump-requires-in-loop-f c = (body_below _ _ c.function-d.result c.function-d.ensures, c.loop-f.invariant.1.long ∙ c.requires.1)
 
 pub loop-f-preserved : goal.loop-f-preserved
 loop-f-preserved c =
     let i = c.loop-f.invariant in
-    let d = c.function_at-d in (
-      more c.args.image.now c.loop-f.f d.result _ _ _ d.ensures i.0 c.bump.ensures,
-      more c.args.image.now c.loop-f.f d.result _ _ _ d.ensures i.1 c.bump-in-loop-f.ensures,
+    let d = c.function-d in (
+      more c.args.image.now.bytes.now c.loop-f.f d.result _ _ _ d.ensures i.0 c.bump.ensures,
+      more c.args.image.now.bytes.now c.loop-f.f d.result _ _ _ d.ensures i.1 c.bump-in-loop-f.ensures,
     )

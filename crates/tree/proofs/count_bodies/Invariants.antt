@@ -3,4 +3,4 @@ use Rattle.tree.specs.Tree.{bodies, Added}
 use Rattle.tree.proofs.count_bodies.Given as goal
 
 abbrev pub invariant-loop-f : goal.invariant-loop-f
-invariant-loop-f l = Added l.fn.names l.names (bodies l.image l.f) × Added l.fn.bodies l.bodies (bodies l.image l.f)
+invariant-loop-f l = Added l.fn.names l.names (bodies l.image.bytes.now l.f) × Added l.fn.bodies l.bodies (bodies l.image.bytes.now l.f)

@@ -7,7 +7,7 @@ use Rattle.tree.proofs.lowest_fault.Goals as goal
 pub survey-requires : goal.survey-requires
 survey-requires c =
     let p = c.requires in
-    (p.2.few, p.1, c.count_bodies.ensures.of_names.long ∙ c.bump.ensures.long ∙ zeros.long, zeros)
+    (p.1.few, c.count_bodies.ensures.of_names.long ∙ c.bump.ensures.long ∙ zeros.long, zeros)
 
 pub first_wrong-requires : goal.first_wrong-requires
 unfolding namings
@@ -16,7 +16,6 @@ first_wrong-requires c =
     let counted = c.count_bodies.ensures in
     let surveyed = c.survey.ensures in (
       p.1,
-      p.2,
       record {
         named = from_zeros (added_then (added_then c.bump.ensures counted.of_names) surveyed.of_names);
         as_body = from_zeros counted.of_bodies;

@@ -17,14 +17,14 @@ unfolding node_right
 returns-then-parts-le-MOST_PARTS c =
     let p = c.requires in
     let a = c.args in
-    let d = c.node_at-d.result in
+    let d = c.node-d.result in
     let is = c.from-at.ensures in
-    let small : a.n < 4096 = omega (arith, p.3.few) in
-    let chain : get_or a.found.now.chains c.from-at.result 0 ≡ chain_by a.image.now a.h a.h.nodes a.n = rw is (p.4.chained.at a.n small) in
-    let front : names_well a.image.now a.h a.n (get_or a.found.now.chains c.from-at.result 0) d && leb (parts a.image.now a.h 65 a.n) 64 ≡ true =
+    let small : a.n < 4096 = omega (arith, p.2.few) in
+    let chain : get_or a.found.now.chains c.from-at.result 0 ≡ chain_by a.image.now.bytes.now a.image.now.header a.image.now.header.nodes a.n = rw is (p.3.chained.at a.n small) in
+    let front : names_well a.image.now.bytes.now a.image.now.header a.n (get_or a.found.now.chains c.from-at.result 0) d && leb (parts a.image.now.bytes.now a.image.now.header 65 a.n) 64 ≡ true =
     elim c.if-names_well.branch [
       | then-names_well w ↦ rw (sym c.names_well.ensures ∙ w.if-names_well.true, sym w.parts.ensures) (sym w.value-is ∙ c.if-parts-le-MOST_PARTS.true)
       | else-names_well w ↦ cc
     ] in
-    let counts = ap₂ (is_named_well a.h a.n d.kind) (ap (λ i. get_or a.found.now.names i 0) is ∙ p.4.named.at a.n small) (ap (λ i. get_or a.found.now.bodies i 0) is ∙ p.4.as_body.at a.n small) in
-    rw (sym (c.node_at-d.ensures ∙ ap (node_at a.image.now a.h) is), sym chain, front) (c.is_named_well.ensures ∙ counts ∙ by_counts a.h a.n d.kind _ _)
+    let counts = ap₂ (is_named_well a.image.now.header a.n d.kind) (ap (λ i. get_or a.found.now.names i 0) is ∙ p.3.named.at a.n small) (ap (λ i. get_or a.found.now.bodies i 0) is ∙ p.3.as_body.at a.n small) in
+    rw (sym (c.node-d.ensures ∙ ap (node_at a.image.now.bytes.now a.image.now.header) is), sym chain, front) (c.is_named_well.ensures ∙ counts ∙ by_counts a.image.now.header a.n d.kind _ _)

@@ -36,34 +36,34 @@ module _ (image : List ℕ) (h : Header) (at count : ℕ) (d : Node) (is : d ≡
 pub returns-then-not-is_part : goal.returns-then-not-is_part
 returns-then-not-is_part c =
     let l = c.loop-count in
-    let d = c.node_at-d in
-    let is = d.ensures ∙ ap (node_at c.args.image.now c.args.h) c.from.ensures in
-    let stop = turn c.args.image.now c.args.h l.at l.count d.result is c.loop-count-test.true in
+    let d = c.node-d in
+    let is = d.ensures ∙ ap (node_at c.args.image.now.bytes.now c.args.image.now.header) c.from.ensures in
+    let stop = turn c.args.image.now.bytes.now c.args.image.now.header l.at l.count d.result is c.loop-count-test.true in
     let none = rw (sym c.is_part.ensures ∙ c.if-not-is_part.true) at stop in
     omega (arith, l.invariant.2, none)
 
 pub returns-then-d-at : goal.returns-then-d-at
 returns-then-d-at c =
     let l = c.loop-count in
-    let d = c.node_at-d in
-    let is = d.ensures ∙ ap (node_at c.args.image.now c.args.h) c.from.ensures in
-    let stop = turn c.args.image.now c.args.h l.at l.count d.result is c.loop-count-test.true in
+    let d = c.node-d in
+    let is = d.ensures ∙ ap (node_at c.args.image.now.bytes.now c.args.image.now.header) c.from.ensures in
+    let stop = turn c.args.image.now.bytes.now c.args.image.now.header l.at l.count d.result is c.loop-count-test.true in
     let one = rw (sym c.is_part.ensures ∙ c.if-not-is_part.false, le-ltb _ _ c.if-d-at.true) at stop in
     omega (arith, l.invariant.2, one)
 
 pub loop-count-preserved : goal.loop-count-preserved
 loop-count-preserved c =
     let a = c.args in
-    let image = a.image.now in
+    let image = a.image.now.bytes.now in
     let l = c.loop-count in
-    let d = c.node_at-d in
-    let is = d.ensures ∙ ap (node_at image a.h) c.from.ensures in
-    let stop = turn image a.h l.at l.count d.result is c.loop-count-test.true in
+    let d = c.node-d in
+    let is = d.ensures ∙ ap (node_at image a.image.now.header) c.from.ensures in
+    let stop = turn image a.image.now.header l.at l.count d.result is c.loop-count-test.true in
     let part = sym c.is_part.ensures ∙ c.if-not-is_part.false in
     let on = rw (part, lt-ltb _ _ c.if-d-at.false) at stop in
-    let good = c.requires.3.good l.at l.invariant.0 l.invariant.1 in
-    let there = fits_named image a.h _ d.result.a (good_node image a.h d.result (ap (node_good image a.h) is ∙ good)).a in
-    let within : d.result.a ≤ a.h.nodes = rw (named_part d.result.kind d.result.a part) at there in
+    let good = c.requires.2.good l.at l.invariant.0 l.invariant.1 in
+    let there = fits_named image a.image.now.header _ d.result.a (good_node image a.image.now.header d.result (ap (node_good image a.image.now.header) is ∙ good)).a in
+    let within : d.result.a ≤ a.image.now.header.nodes = rw (named_part d.result.kind d.result.a part) at there in
     (omega arith, within, omega (arith, l.invariant.2, on))
 
 pub returns : goal.returns
@@ -71,5 +71,5 @@ unfolding parts
 returns c =
     let l = c.loop-count in
     let full : l.count ≡ 65 = omega arith in
-    let none : parts c.args.image.now c.args.h (65 - l.count) l.at ≡ 0 = rw full in
+    let none : parts c.args.image.now.bytes.now c.args.image.now.header (65 - l.count) l.at ≡ 0 = rw full in
     omega (arith, l.invariant.2, none)

@@ -4,4 +4,4 @@ use Rattle.tree.specs.Tree.{parts}
 use Rattle.tree.proofs.parts.Given as goal
 
 abbrev pub invariant-loop-count : goal.invariant-loop-count
-invariant-loop-count l = (1 ≤ l.at) × (l.at ≤ l.h.nodes) × (parts l.image l.h 65 l.n ≡ l.count + parts l.image l.h (65 - l.count) l.at)
+invariant-loop-count l = (1 ≤ l.at) × (l.at ≤ l.image.header.nodes) × (parts l.image.bytes.now l.image.header 65 l.n ≡ l.count + parts l.image.bytes.now l.image.header (65 - l.count) l.at)

@@ -32,57 +32,57 @@ more_chains image h (suc k) d a b one small e p q =
 
 pub loop-n-init : goal.loop-n-init
 unfolding node_names chain_by
-loop-n-init c = (omega arith, added_none _, c.requires.3)
+loop-n-init c = (omega arith, added_none _, c.requires.2)
 
 pub name_node-requires : goal.name_node-requires
 name_node-requires c =
-    let b = node_below _ _ _ c.node_at-d.result c.node_at-d.ensures in
-    (b.0, b.1, b.2, c.loop-n.invariant.1.long ∙ c.requires.2)
+    let b = node_below _ _ _ c.node-d.result c.node-d.ensures in
+    (b.0, b.1, b.2, c.loop-n.invariant.1.long ∙ c.requires.1)
 
 pub mark_node-requires : goal.mark_node-requires
 mark_node-requires c =
-    let b = node_below _ _ _ c.node_at-d.result c.node_at-d.ensures in
+    let b = node_below _ _ _ c.node-d.result c.node-d.ensures in
     (omega arith, b.0, b.2, c.loop-n.invariant.2.long)
 
 pub loop-n-preserved : goal.loop-n-preserved
 loop-n-preserved c =
     let i = c.loop-n.invariant in
     let n = c.loop-n.n in
-    let d = c.node_at-d in
-    let is = d.ensures ∙ ap (node_at c.args.image.now c.args.h) c.from.ensures in
+    let d = c.node-d in
+    let is = d.ensures ∙ ap (node_at c.args.image.now.bytes.now c.args.image.now.header) c.from.ensures in
     let back : n + 1 - 1 ≡ n = omega arith in
     rw back (
       omega arith,
-      more_names c.args.image.now c.args.h n d.result _ _ _ (omega arith) is i.1 c.name_node.ensures,
-      more_chains c.args.image.now c.args.h n d.result _ _ (omega arith) (omega arith) is i.2 c.mark_node.ensures,
+      more_names c.args.image.now.bytes.now c.args.image.now.header n d.result _ _ _ (omega arith) is i.1 c.name_node.ensures,
+      more_chains c.args.image.now.bytes.now c.args.image.now.header n d.result _ _ (omega arith) (omega arith) is i.2 c.mark_node.ensures,
     )
 
 -- no node
 pub returns-clause-of_names : goal.returns-clause-of_names
 returns-clause-of_names c =
-    let all : c.loop-n.n - 1 ≡ c.args.h.nodes = omega arith in
-    subst (λ (k : ℕ). Added c.args.names.now c.loop-n.names (node_names c.args.image.now c.args.h k)) all c.loop-n.invariant.1
+    let all : c.loop-n.n - 1 ≡ c.args.image.now.header.nodes = omega arith in
+    subst (λ (k : ℕ). Added c.args.names.now c.loop-n.names (node_names c.args.image.now.bytes.now c.args.image.now.header k)) all c.loop-n.invariant.1
 
 pub returns-clause-of_chains : goal.returns-clause-of_chains
 returns-clause-of_chains c =
-    let all : c.loop-n.n - 1 ≡ c.args.h.nodes = omega arith in
-    subst (λ (k : ℕ). Holds c.loop-n.chains (chain_by c.args.image.now c.args.h k)) all c.loop-n.invariant.2
+    let all : c.loop-n.n - 1 ≡ c.args.image.now.header.nodes = omega arith in
+    subst (λ (k : ℕ). Holds c.loop-n.chains (chain_by c.args.image.now.bytes.now c.args.image.now.header k)) all c.loop-n.invariant.2
 
 -- the last node
 pub returns-2-clause-of_names : goal.returns-2-clause-of_names
 returns-2-clause-of_names c =
     let n = c.loop-n.n in
-    let d = c.node_at-d in
-    let is = d.ensures ∙ ap (node_at c.args.image.now c.args.h) c.from.ensures in
-    let last : n ≡ c.args.h.nodes = omega arith in
-    subst (λ (k : ℕ). Added c.args.names.now c.name_node.new.names (node_names c.args.image.now c.args.h k)) last
-    (more_names c.args.image.now c.args.h n d.result _ _ _ (omega arith) is c.loop-n.invariant.1 c.name_node.ensures)
+    let d = c.node-d in
+    let is = d.ensures ∙ ap (node_at c.args.image.now.bytes.now c.args.image.now.header) c.from.ensures in
+    let last : n ≡ c.args.image.now.header.nodes = omega arith in
+    subst (λ (k : ℕ). Added c.args.names.now c.name_node.new.names (node_names c.args.image.now.bytes.now c.args.image.now.header k)) last
+    (more_names c.args.image.now.bytes.now c.args.image.now.header n d.result _ _ _ (omega arith) is c.loop-n.invariant.1 c.name_node.ensures)
 
 pub returns-2-clause-of_chains : goal.returns-2-clause-of_chains
 returns-2-clause-of_chains c =
     let n = c.loop-n.n in
-    let d = c.node_at-d in
-    let is = d.ensures ∙ ap (node_at c.args.image.now c.args.h) c.from.ensures in
-    let last : n ≡ c.args.h.nodes = omega arith in
-    subst (λ (k : ℕ). Holds c.mark_node.new.chains (chain_by c.args.image.now c.args.h k)) last
-    (more_chains c.args.image.now c.args.h n d.result _ _ (omega arith) (omega arith) is c.loop-n.invariant.2 c.mark_node.ensures)
+    let d = c.node-d in
+    let is = d.ensures ∙ ap (node_at c.args.image.now.bytes.now c.args.image.now.header) c.from.ensures in
+    let last : n ≡ c.args.image.now.header.nodes = omega arith in
+    subst (λ (k : ℕ). Holds c.mark_node.new.chains (chain_by c.args.image.now.bytes.now c.args.image.now.header k)) last
+    (more_chains c.args.image.now.bytes.now c.args.image.now.header n d.result _ _ (omega arith) (omega arith) is c.loop-n.invariant.2 c.mark_node.ensures)
