@@ -5,6 +5,7 @@ ghost use Rattle.std.specs.Prelude.{◌≡◌};
 ghost use Rattle.packed.specs.Layout.{header_of};
 ghost use Rattle.image.specs.Load.{error_number, error_place, judged, load_of};
 
+use packed::image::Image;
 use packed::layout::{Header, header_of, size_of};
 use records::{bad_record, is_node};
 use tree::lowest_fault;
@@ -64,10 +65,14 @@ fn judge(image: &[u8], h: Header) -> Result<Header, LoadError>
     if !is_node(h.root, h.nodes) {
         return Err(LoadError::BadHeader);
     }
-    if let Some(at) = bad_record(image, h) {
+    let whole = Image {
+        bytes: image,
+        header: h,
+    };
+    if let Some(at) = bad_record(&whole) {
         return Err(LoadError::BadRecord(at));
     }
-    match lowest_fault(image, h) {
+    match lowest_fault(&whole) {
         Some(n) => Err(LoadError::BadTree(n)),
         None => Ok(h),
     }

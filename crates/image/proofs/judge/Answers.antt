@@ -1,6 +1,5 @@
 -- What the tree's judging asks: the tests so far held, and no record is bad.
-use Rattle.std.proofs.Common.{◌≡◌, None, sym, ◌∙◌}
-use Rattle.std.proofs.Math.Nat.{le_of_eq}
+use Rattle.std.proofs.Common.{◌≡◌, None}
 use Rattle.records.specs.Records.{bad_record}
 use Rattle.tree.proofs.Below.{header_below}
 use Rattle.records.proofs.GoodRecords.{node_good_lem}
@@ -11,4 +10,4 @@ lowest_fault-requires c =
     let a = c.args in
     let b = header_below a.image.now a.h c.requires in
     let none : bad_record a.image.now a.h ≡ None = cc in
-    (b.1, le_of_eq (sym c.size_of.ensures ∙ sym c.if-image-size_of.false), record { few = b.0; good = node_good_lem a.image.now a.h none })
+    (b.1, record { few = b.0; good = node_good_lem a.image.now a.h none })
