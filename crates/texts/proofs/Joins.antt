@@ -6,7 +6,7 @@ use Prim.Native.Nat.{ℕ, ◌+◌, ◌-◌, ◌≤◌, ◌<◌}
 use native.Mathlib.Omega.{arith}
 use borrow.Author.Tests.{le-leb, lt-leb}
 use lib.Dec.{leb}
-use lib.ListN.{length, set, take, length-append}
+use lib.ListN.{length, take, length-append}
 use lib.Seq.{length-take-le}
 use Rattle.packed.specs.declared.layout.Header.{Header}
 use Rattle.std.specs.Prelude.{Some, None, Result, Ok, Err}
@@ -23,19 +23,21 @@ use Rattle.texts.specs.Text.{pool_text, joined}
 use Rattle.stores.specs.Stores.{text_of, store_of, MakesText}
 use Rattle.stores.proofs.Numbers.{text_set, kept_text}
 use Rattle.stores.proofs.Chains.{kept_bytes, kept_then}
+use Rattle.stores.specs.declared.run.Run.{Run}
+use Rattle.stores.specs.Run.{set_text}
 
 -- ---- the store after two puts
 
-store_kept : (run words bytes bytes' : List ℕ) → take (text_of run) bytes' ≡ take (text_of run) bytes → store_of run words bytes' ≡ store_of run words bytes
+store_kept : (run : Run) (words bytes bytes' : List ℕ) → take (text_of run) bytes' ≡ take (text_of run) bytes → store_of run words bytes' ≡ store_of run words bytes
 unfolding store_of
 store_kept run words bytes bytes' e = rw e
 
-text_taken : (run words bytes bytes' : List ℕ) (end : ℕ) → length run ≡ 16
-    → store_of (set run 6 end) words bytes' ≡ with_text (take end bytes') (store_of run words bytes)
+text_taken : (run : Run) (words bytes bytes' : List ℕ) (end : ℕ)
+    → store_of (set_text run end) words bytes' ≡ with_text (take end bytes') (store_of run words bytes)
 unfolding store_of
-text_taken run words bytes bytes' end e = text_set run words bytes' end e
+text_taken run words bytes bytes' end = text_set run words bytes' end
 
-module _ (image : List ℕ) (h : Header) (n start len start' len' : ℕ) (run bytes : List ℕ) where
+module _ (image : List ℕ) (h : Header) (n start len start' len' : ℕ) (run : Run) (bytes : List ℕ) where
   abbrev made : ℕ
   made = text_of run
 
@@ -45,7 +47,7 @@ module _ (image : List ℕ) (h : Header) (n start len start' len' : ℕ) (run by
   abbrev two : List ℕ
   two = pool_text image h made bytes start' len'
 
-  abbrev Joins : Result Value Refused → List ℕ → List ℕ → Type 0
+  abbrev Joins : Result Value Refused → Run → List ℕ → Type 0
   Joins r run' bytes' = MakesText r (joined image h n start len start' len') run bytes run' bytes'
 
   module _ (full : length bytes ≡ 16384) (fits : made ≤ 16384) where
@@ -68,14 +70,14 @@ module _ (image : List ℕ) (h : Header) (n start len start' len' : ℕ) (run by
 
     given : (bytes' : List ℕ) (end : ℕ) → end ≡ made + length (one ++ two) → end ≤ 16384
         → take end bytes' ≡ take made bytes ++ (one ++ two) → length bytes' ≡ length bytes
-        → Joins (Ok (Text (h.text + made) (end - made))) (set run 6 end) bytes'
+        → Joins (Ok (Text (h.text + made) (end - made))) (set_text run end) bytes'
     given bytes' end e within same long words f =
         let count : length (one ++ two) ≡ end - made = omega arith in
         record {
           did =
               joined_is words
               ∙ rw (le-leb (made + length (one ++ two)) 16384 (omega arith), count, ← same)
-              (ap (gives (Text (h.text + made) (end - made))) (sym (text_taken run words bytes bytes' end f.run_length)));
+              (ap (gives (Text (h.text + made) (end - made))) (sym (text_taken run words bytes bytes' end)));
           undone = λ why q. let z : ◌≡◌ {A = ℕ} 0 1 = cc in absurd (omega arith);
           kept = kept_then (kept_bytes f long) (kept_text run words end bytes' f within);
         }
@@ -111,7 +113,7 @@ module _ (image : List ℕ) (h : Header) (n start len start' len' : ℕ) (run by
             (ap (take made) put₂ ∙ take_put bytes₁ at next made (omega (arith, place)) ∙ same₁)
             long₂
 
-        pub join_all : (end : ℕ) → Some end ≡ end_of bytes₁ at next → Joins (Ok (Text (h.text + made) (end - made))) (set run 6 end) bytes₂
+        pub join_all : (end : ℕ) → Some end ≡ end_of bytes₁ at next → Joins (Ok (Text (h.text + made) (end - made))) (set_text run end) bytes₂
         join_all end e =
             let last : (end ≡ at + length next) × (end ≤ length bytes₁) = ended bytes₁ at next e in
             given bytes₂ end

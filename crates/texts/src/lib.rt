@@ -8,12 +8,14 @@ ghost use Rattle.rules.specs.Store.{length_of, same_text, part_text};
 ghost use Rattle.rules.specs.Building.{bool_text};
 ghost use Rattle.rules.specs.Output.{ascending};
 ghost use Rattle.texts.specs.Text.{bytes_of, Spans, first_part, image_part, pool_text, Sourced, joined};
+ghost use Rattle.stores.specs.Lent.{StoresMade};
 ghost use Rattle.stores.specs.Stores.{text_of, MakesText};
 
+use packed::image::Image;
 use packed::layout::{Header, text_at};
 use rules::{Refusal, Refused, Value};
 use slots::{length_of, start_of};
-use stores::run::TEXT;
+use stores::lent::Stores;
 
 // Bytes of a slice: from which on, and how many.
 #[derive(Clone, Copy)]
@@ -60,27 +62,24 @@ fn image_span(h: Header, start: u32, len: u16) -> Span
 }
 
 // The text of a literal's payload.
-fn literal_text(image: &[u8], h: Header, payload: u64) -> &[u8]
-    requires { size_of h ≤ length image.now }
-    ensures { result.now ≡ part_text image.now h payload }
+fn literal_text<'a>(image: &'a Image, payload: u64) -> &'a [u8]
+    ensures { result.now ≡ part_text image.now.bytes.now image.now.header payload }
 {
-    image_span(h, start_of(payload), length_of(payload)).of(image)
+    image_span(image.header, start_of(payload), length_of(payload)).of(image.bytes)
 }
 
 // Whether two payloads of text literals name the same text.
-pub fn same_part(image: &[u8], h: Header, p: u64, q: u64) -> bool
-    requires { size_of h ≤ length image.now }
-    ensures { result ≡ same_text (part_text image.now h p) (part_text image.now h q) }
+pub fn same_part(image: &Image, p: u64, q: u64) -> bool
+    ensures { result ≡ same_text (part_text image.now.bytes.now image.now.header p) (part_text image.now.bytes.now image.now.header q) }
 {
-    p == q || literal_text(image, h, p) == literal_text(image, h, q)
+    p == q || literal_text(image, p) == literal_text(image, q)
 }
 
 // Whether the text that a payload names is that of another, or stands before it.
-pub fn ascending_part(image: &[u8], h: Header, p: u64, q: u64) -> bool
-    requires { size_of h ≤ length image.now }
-    ensures { result ≡ ascending (part_text image.now h p) (part_text image.now h q) }
+pub fn ascending_part(image: &Image, p: u64, q: u64) -> bool
+    ensures { result ≡ ascending (part_text image.now.bytes.now image.now.header p) (part_text image.now.bytes.now image.now.header q) }
 {
-    literal_text(image, h, p) <= literal_text(image, h, q)
+    literal_text(image, p) <= literal_text(image, q)
 }
 
 // Whether so many bytes at `at` are within `total`.
@@ -104,12 +103,11 @@ fn put_bytes(text: &[u8], bytes: &mut [u8], at: usize) -> Option<usize>
 }
 
 // Puts the text of a literal's payload.
-pub fn put_part(image: &[u8], h: Header, payload: u64, bytes: &mut [u8], at: usize) -> Option<usize>
-    requires { size_of h ≤ length image.now }
-    ensures end { result ≡ end_of bytes.old at (part_text image.now h payload) }
-    ensures bytes { bytes.new ≡ put_of bytes.old at (part_text image.now h payload) }
+pub fn put_part(image: &Image, payload: u64, bytes: &mut [u8], at: usize) -> Option<usize>
+    ensures end { result ≡ end_of bytes.old at (part_text image.now.bytes.now image.now.header payload) }
+    ensures bytes { bytes.new ≡ put_of bytes.old at (part_text image.now.bytes.now image.now.header payload) }
 {
-    put_bytes(literal_text(image, h, payload), bytes, at)
+    put_bytes(literal_text(image, payload), bytes, at)
 }
 
 // Where the bytes of a text stand, the first `made` bytes having been built.
@@ -124,28 +122,27 @@ pub fn sources_of(h: Header, made: usize, start: u32, len: u16) -> Sources
 
 // Puts a text at `at`, the first `made` bytes having been built before.
 pub fn put_text(
-    image: &[u8],
-    h: Header,
+    image: &Image,
     made: usize,
     start: u32,
     len: u16,
     bytes: &mut [u8],
     at: usize,
 ) -> Option<usize>
-    requires { (size_of h ≤ length image.now) × (made ≤ at) }
-    ensures end { result ≡ end_of bytes.old at (pool_text image.now h made bytes.old start len) }
-    ensures bytes { bytes.new ≡ put_of bytes.old at (pool_text image.now h made bytes.old start len) }
+    requires { made ≤ at }
+    ensures end { result ≡ end_of bytes.old at (pool_text image.now.bytes.now image.now.header made bytes.old start len) }
+    ensures bytes { bytes.new ≡ put_of bytes.old at (pool_text image.now.bytes.now image.now.header made bytes.old start len) }
 {
     let Sources {
         image: first,
         built,
-    } = sources_of(h, made, start, len);
+    } = sources_of(image.header, made, start, len);
     let count = first.count + built.count;
     if !has_room(bytes.len(), at, count) {
         return None;
     }
     let middle = at + first.count;
-    bytes[at..middle].copy_from_slice(first.of(image));
+    bytes[at..middle].copy_from_slice(first.of(image.bytes));
     bytes.copy_within(built.from..built.from + built.count, middle);
     Some(at + count)
 }
@@ -161,26 +158,23 @@ pub fn put_bool(b: bool, bytes: &mut [u8], at: usize) -> Option<usize>
 
 // Two texts joined after what was built before, as the value of node n.
 pub fn join(
-    image: &[u8],
-    h: Header,
-    bytes: &mut [u8],
-    run: &mut [u64; 16],
+    image: &Image,
+    stores: &mut Stores,
     n: u16,
     start: u32,
     len: u16,
     start2: u32,
     len2: u16,
 ) -> Result<Value, Refused>
-    requires { (size_of h ≤ length image.now) × (length bytes.old ≡ 16384) × (length run.old ≡ 16) × (text_of run.old ≤ 16384) }
-    ensures { MakesText result (joined image.now h n start len start2 len2) run.old bytes.old run.new bytes.new }
+    ensures { StoresMade result (joined image.now.bytes.now image.now.header n start len start2 len2) stores.old stores.new }
 {
     let no_room = Refused {
         why: Refusal::TextBytes,
         place: n,
     };
-    let made = run[TEXT] as usize;
-    let middle = put_text(image, h, made, start, len, bytes, made).ok_or(no_room)?;
-    let end = put_text(image, h, made, start2, len2, bytes, middle).ok_or(no_room)?;
-    run[TEXT] = end as u64;
-    Ok(Value::Text(h.text as u32 + made as u32, (end - made) as u16))
+    let made = stores.run.text as usize;
+    let middle = put_text(image, made, start, len, stores.bytes, made).ok_or(no_room)?;
+    let end = put_text(image, made, start2, len2, stores.bytes, middle).ok_or(no_room)?;
+    stores.run.text = end as u64;
+    Ok(Value::Text(image.header.text as u32 + made as u32, (end - made) as u16))
 }

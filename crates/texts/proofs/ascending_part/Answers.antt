@@ -6,5 +6,5 @@ use Rattle.texts.proofs.ascending_part.Goals as goal
 pub returns : goal.returns
 returns c =
     let a = c.args in
-    ascending_is (part_text a.image.now a.h a.p) (part_text a.image.now a.h a.q) _
+    ascending_is (part_text a.image.now.bytes.now a.image.now.header a.p) (part_text a.image.now.bytes.now a.image.now.header a.q) _
     (rw (c.literal_text.ensures, c.literal_text-2.ensures) at c.le.ensures)

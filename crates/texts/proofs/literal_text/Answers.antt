@@ -5,4 +5,4 @@ use Rattle.texts.proofs.literal_text.Goals as goal
 
 pub returns : goal.returns
 unfolding part_text
-returns c = c.of.ensures ∙ sym (rw (c.start_of.ensures, c.length_of.ensures) at (c.image_span.ensures.is c.args.image.now))
+returns c = c.of.ensures ∙ sym (rw (c.start_of.ensures, c.length_of.ensures) at (c.image_span.ensures.is c.args.image.now.bytes.now))
