@@ -8,13 +8,13 @@ use native.Mathlib.Omega.{arith}
 use borrow.Author.Tests.{eqb-true, ltb-true, eq-eqb, ne_eqb}
 use lib.Dec.{ltb, eqb}
 use lib.ListN.{length}
+use Rattle.std.specs.Prelude.{Ok}
 use Rattle.packed.specs.declared.layout.Header.{Header}
 use Rattle.kinds.specs.declared.Class.TheVariants.{Component, Entry}
 use Rattle.kinds.specs.declared.Role.{Role}
 use Rattle.kinds.specs.declared.Role.TheVariants.{Text, Node as NodeRole}
 use Rattle.packed.specs.Layout.{node_at, size_of}
 use Rattle.kinds.specs.Kinds.{row_of, table}
-use Rattle.image.specs.declared.Loaded.TheVariants.{Image}
 use Rattle.image.specs.Load.{load_of}
 use Rattle.records.specs.Records.{fits}
 use Rattle.image.proofs.Loads.{Reaches, nothing, on, header_right, node_loaded, text_asked, a_reaches}
@@ -51,7 +51,7 @@ module _ (image : List ℕ) (h : Header) where
   pub along_onward : (n i : ℕ) → Along image h n i → (onward image h i ≡ 0 → ⊥) → Along image h n (onward image h i)
   along_onward n i p some = continues p (sym (onward_up i some).1) some
 
-  module _ (loaded : load_of image ≡ Image h) where
+  module _ (loaded : load_of image ≡ Ok h) where
     pub size_right : size_of h ≤ length image
     size_right = omega (arith, (header_right image h loaded).exact)
 

@@ -7,12 +7,13 @@ use native.Mathlib.Nat.{le_refl}
 use native.Mathlib.Omega.{arith}
 use lib.ListN.{length, set, take, drop, length-map}
 use lib.Seq.{sets, length-sets}
+use Rattle.std.specs.Prelude.{Option, Some, None, Ok, Err}
 use Rattle.packed.specs.declared.layout.Header.{Header}
 use Rattle.packed.specs.Layout.{node_at}
 use Rattle.rules.specs.declared.Value.{Value}
 use Rattle.rules.specs.declared.Value.TheVariants.{Object}
 use Rattle.rules.specs.declared.Refusal.TheVariants.{Cells}
-use Rattle.rules.specs.declared.Got.TheVariants.{Is, Not}
+use Rattle.rules.specs.Targets.{refusing}
 use Rattle.rules.specs.Store.{Cell, head as head_cell, entry, with_cells, dropped}
 use Rattle.rules.specs.Building.{gives, refuses, boxed, entries, entry_cells}
 use Rattle.rules.specs.Machine.{whole_chain}
@@ -27,6 +28,7 @@ use Rattle.stores.proofs.Chains.{kept_same, kept_then}
 use Rattle.stores.proofs.Counted.{cells_counted, recounted}
 use Rattle.boxes.proofs.CellLaws.{length-cells}
 use Rattle.building.proofs.MakingLaws.{cells_taken, cells_refused}
+use Rattle.building.proofs.ObjectLaws.{ended_at, not_ended_at}
 
 module _ (image : List ℕ) (h : Header) (n from : ℕ) (run words : List ℕ) (f : Fits run words) where
   abbrev top : ℕ
@@ -43,18 +45,18 @@ module _ (image : List ℕ) (h : Header) (n from : ℕ) (run words : List ℕ) (
       let size = length-map all (λ (e : ℕ × Value). entry (length σ.cells) e.0 e.1) in
       ap (boxed n (Object (length σ.cells))) (cells_refused (dropped from σ) (entry_cells σ all) (omega (arith, length-cells run words bytes)))
 
-  pub object_full : 1024 ≤ top → MakesWords (Not Cells n) (object_made image h n from) run words run words
+  pub object_full : 1024 ≤ top → MakesWords (Err (refusing Cells n)) (object_made image h n from) run words run words
   object_full full bytes =
       record {
         did = all_refused bytes (omega arith);
-        undone = λ why place e. refl;
+        undone = λ r e. refl;
         kept = record { fits = f; room = refl; takes = refl; rest = refl };
       }
 
   abbrev headed : List ℕ
   headed = sets words (1792 + 4 * top) (head_words 0)
 
-  module _ (below : top < 1024) (end : ℕ) (words' : List ℕ) (put : EntriesPut image h n top from (pending_of run) end headed words') where
+  module _ (below : top < 1024) (r : Option ℕ) (words' : List ℕ) (put : EntriesPut image h n top from (pending_of run) r headed words') where
     same_bindings : bindings_in (bound_of run) words' ≡ bindings_in (bound_of run) words
     same_bindings = put.bindings (bound_of run) f.bindings ∙ bindings_apart words (head_words 0) (1792 + 4 * top) (bound_of run) f.bindings (omega arith)
 
@@ -82,29 +84,33 @@ module _ (image : List ℕ) (h : Header) (n from : ℕ) (run words : List ℕ) (
     still_fits : Fits run words'
     still_fits = fits_words run words words' f (put.long ∙ length-sets words (1792 + 4 * top) (head_words 0))
 
-    pub object_over : 1024 < end → MakesWords (Not Cells n) (object_made image h n from) run words run words'
-    object_over over bytes =
+    pub object_over : r ≡ None → MakesWords (Err (refusing Cells n)) (object_made image h n from) run words run words'
+    object_over none bytes =
+        let over = not_ended_at (top + 1 + length (entries_in image h n from (pending_of run) headed)) (sym none ∙ put.ends) in
         record {
-          did = all_refused bytes (omega (arith, put.more over, ap length same_entries));
-          undone = λ why place e. same_store bytes;
+          did = all_refused bytes (omega (arith, over, ap length same_entries));
+          undone = λ r e. same_store bytes;
           kept = kept_same still_fits;
         }
 
     -- the head, and then the entries
-    new_cells : end ≤ 1024 → cells_in end words' ≡ cells_in top words ++ (head_cell 0 ∷ entries_of top all)
+    new_cells : (end : ℕ) → r ≡ Some end → cells_in end words' ≡ cells_in top words ++ (head_cell 0 ∷ entries_of top all)
     unfolding cells_in cell_in
-    new_cells most =
-        put.entries most
+    new_cells end is =
+        put.entries end is
         ∙ ap₂ (λ (cs : List Cell) (es : List (ℕ × Value)). cs ++ entries_of top es)
         (view_push cell_in 1792 4 top words (head_words 0) refl (omega (arith, f.words_length)))
         same_entries
         ∙ append_assoc (cells_in top words) (head_cell 0 ∷ []) (entries_of top all)
 
-    module _ (run' : List ℕ) (given_back : BecameRun (dropped from) run run') (most : end ≤ 1024) where
+    module _ (run' : List ℕ) (given_back : BecameRun (dropped from) run run') (end : ℕ) (is : r ≡ Some end) where
+      pub last : (end ≡ top + 1 + length (entries_in image h n from (pending_of run) headed)) × (end ≤ 1024)
+      last = ended_at (top + 1 + length (entries_in image h n from (pending_of run) headed)) end (sym is ∙ put.ends)
+
       new_store : (bytes : List ℕ) → store_of (set run' 5 end) words' bytes ≡ with_cells (cells_in top words ++ (head_cell 0 ∷ entries_of top all)) (dropped from (store_of run words bytes))
       new_store bytes =
           let back = given_back words' bytes still_fits in
-          cells_set run' words' bytes end back.kept.fits.run_length ∙ ap₂ with_cells (new_cells most) (back.store ∙ ap (dropped from) (same_store bytes))
+          cells_set run' words' bytes end back.kept.fits.run_length ∙ ap₂ with_cells (new_cells end is) (back.store ∙ ap (dropped from) (same_store bytes))
 
       all_taken : (bytes : List ℕ) → object_made image h n from (store_of run words bytes) ≡ gives (Object top) (store_of (set run' 5 end) words' bytes)
       unfolding store_of
@@ -112,15 +118,15 @@ module _ (image : List ℕ) (h : Header) (n from : ℕ) (run words : List ℕ) (
           let σ = store_of run words bytes in
           let size = length-map all (λ (e : ℕ × Value). entry (length σ.cells) e.0 e.1) in
           ap (boxed n (Object (length σ.cells)))
-          (cells_taken (dropped from σ) (entry_cells σ all) (omega (arith, length-cells run words bytes, put.ends most, ap length same_entries)))
+          (cells_taken (dropped from σ) (entry_cells σ all) (omega (arith, length-cells run words bytes, last.0, last.1, ap length same_entries)))
           ∙ ap (λ (k : ℕ). gives (Object k) (with_cells (cells_in top words ++ (head_cell 0 ∷ entries_of k all)) (dropped from σ))) (length-cells run words bytes)
           ∙ ap (gives (Object top)) (sym (new_store bytes))
 
-      pub object_made_lem : MakesWords (Is (Object top)) (object_made image h n from) run words (set run' 5 end) words'
+      pub object_made_lem : MakesWords (Ok (Object top)) (object_made image h n from) run words (set run' 5 end) words'
       object_made_lem bytes =
           let back = given_back words' bytes still_fits in
           record {
             did = all_taken bytes;
-            undone = λ why place e. let z : ◌≡◌ {A = ℕ} 0 1 = cc in absurd (omega arith);
-            kept = kept_then back.kept (recounted cells_counted run' words' end back.kept.fits most bytes).kept;
+            undone = λ r e. absurd (cc);
+            kept = kept_then back.kept (recounted cells_counted run' words' end back.kept.fits (last.1) bytes).kept;
           }

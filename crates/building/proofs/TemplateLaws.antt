@@ -9,8 +9,7 @@ use lib.ListN.{length, take, drop, length-append}
 use lib.Seq.{sets, length-take-le}
 use Rattle.packed.specs.declared.layout.Header.{Header}
 use Rattle.packed.specs.Layout.{node_at}
-use Rattle.numbers.specs.declared.decimal.Put.{Put}
-use Rattle.numbers.specs.declared.decimal.Put.TheVariants.{End, NoRoom}
+use Rattle.std.specs.Prelude.{Option, Some, None}
 use Rattle.numbers.specs.Decimal.{put_of, end_of}
 use Rattle.numbers.proofs.DecimalLaws.{room, no_room, ended, not_ended, take_put, length-put, take_put_end}
 use Rattle.rules.specs.declared.Value.{Value}
@@ -47,7 +46,7 @@ module _ (image : List ℕ) (h : Header) (words : List ℕ) (n from to made : �
     pub node : i ≤ h.nodes
 
   -- component i is put at end, if there is room for it, and the next pending item is at'
-  pub record Component (bytes : List ℕ) (end at i : ℕ) (put : Put) (bytes' : List ℕ) (at' : ℕ) : Type 0 where
+  pub record Component (bytes : List ℕ) (end at i : ℕ) (put : Option ℕ) (bytes' : List ℕ) (at' : ℕ) : Type 0 where
     pub text : List ℕ
     pub ended : put ≡ end_of bytes end text
     pub stored : bytes' ≡ put_of bytes end text
@@ -58,7 +57,7 @@ module _ (image : List ℕ) (h : Header) (words : List ℕ) (n from to made : �
       record { long = refl; above = le_refl made; within = most; kept = refl; rest = refl; node = component_within image h n template }
 
   -- nothing is left to put
-  printing_ends : (bytes : List ℕ) (end at i : ℕ) → Printing bytes end at i → left i at ≡ [] → ComponentsPut image h words n from to made (End end) bytes₀ bytes
+  printing_ends : (bytes : List ℕ) (end at i : ℕ) → Printing bytes end at i → left i at ≡ [] → ComponentsPut image h words n from to made (Some end) bytes₀ bytes
   printing_ends bytes end at i p none =
       let text : take end bytes ≡ take made bytes₀ ++ whole = sym (append-nil (take end bytes)) ∙ ap (λ (r : List ℕ). take end bytes ++ r) (sym none) ∙ p.rest in
       let long = ap length text ∙ length-append (take made bytes₀) whole in
@@ -66,11 +65,11 @@ module _ (image : List ℕ) (h : Header) (words : List ℕ) (n from to made : �
       record {
         long = p.long;
         before = p.kept;
-        ends = ap End size ∙ (room bytes₀ made whole (sets bytes₀ made whole) (omega (arith, p.within)) refl).0;
+        ends = ap Some size ∙ (room bytes₀ made whole (sets bytes₀ made whole) (omega (arith, p.within)) refl).0;
         text = λ e q. let same : end ≡ e = cc in ap (λ (k : ℕ). take k bytes) (sym same) ∙ text;
       }
 
-  pub chain_ends : (bytes : List ℕ) (end at i : ℕ) → Printing bytes end at i → i ≡ 0 → ComponentsPut image h words n from to made (End end) bytes₀ bytes
+  pub chain_ends : (bytes : List ℕ) (end at i : ℕ) → Printing bytes end at i → i ≡ 0 → ComponentsPut image h words n from to made (Some end) bytes₀ bytes
   unfolding template_text
   chain_ends bytes end at i p z =
       printing_ends bytes end at i p (ap (λ (is : List ℕ). template_text image h before is (drop at (pendings_in to words))) (whole_none image h i z))
@@ -80,7 +79,7 @@ module _ (image : List ℕ) (h : Header) (words : List ℕ) (n from to made : �
     more = whole_more image h loaded.loaded i some p.node
 
     -- there is no item for it
-    pub items_end : ((node_at image h i).kind ≡ 17 → ⊥) → to ≤ at → ComponentsPut image h words n from to made (End end) bytes₀ bytes
+    pub items_end : ((node_at image h i).kind ≡ 17 → ⊥) → to ≤ at → ComponentsPut image h words n from to made (Some end) bytes₀ bytes
     unfolding template_text
     items_end other past =
         printing_ends bytes end at i p
@@ -91,7 +90,7 @@ module _ (image : List ℕ) (h : Header) (words : List ℕ) (n from to made : �
     text_left is [] e = rw e
     text_left is (v ∷ vs) e = rw e
 
-    pub text_component : (put : Put) (bytes' : List ℕ) → (node_at image h i).kind ≡ 17
+    pub text_component : (put : Option ℕ) (bytes' : List ℕ) → (node_at image h i).kind ≡ 17
         → put ≡ end_of bytes end (literal_text image h (node_at image h i).a) → bytes' ≡ put_of bytes end (literal_text image h (node_at image h i).a)
         → Component bytes end at i put bytes' at
     text_component put bytes' kind ended stored =
@@ -105,7 +104,7 @@ module _ (image : List ℕ) (h : Header) (words : List ℕ) (n from to made : �
     abbrev prints : List ℕ → List ℕ
     prints bytes = printed_text image h made bytes (pending_in (rec_at 768 2 at words))
 
-    pub value_component : (put : Put) (bytes' : List ℕ) → ((node_at image h i).kind ≡ 17 → ⊥) → at < to
+    pub value_component : (put : Option ℕ) (bytes' : List ℕ) → ((node_at image h i).kind ≡ 17 → ⊥) → at < to
         → put ≡ end_of bytes end (prints bytes) → bytes' ≡ put_of bytes end (prints bytes)
         → Component bytes end at i put bytes' (at + 1)
     unfolding template_text
@@ -120,7 +119,7 @@ module _ (image : List ℕ) (h : Header) (words : List ℕ) (n from to made : �
               (ap (λ (t : List ℕ). or_nothing (printed image h (with_text t empty) (pending_in (rec_at 768 2 at words))) ++ left (onward image h i) (at + 1)) (sym p.kept));
         }
 
-    module _ (put : Put) (bytes' : List ℕ) (at' : ℕ) (c : Component bytes end at i put bytes' at') where
+    module _ (put : Option ℕ) (bytes' : List ℕ) (at' : ℕ) (c : Component bytes end at i put bytes' at') where
       -- with what was put before, it is no longer than the whole
       size : end + length c.text ≤ made + length whole
       size =
@@ -129,7 +128,7 @@ module _ (image : List ℕ) (h : Header) (words : List ℕ) (n from to made : �
           let rest = length-append c.text (left (onward image h i) at') in
           omega (arith, both, front, rest, p.long, length-take-le end bytes (omega (arith, p.long, p.within)), length-take-le made bytes₀ (omega (arith, p.above, p.within)))
 
-      pub printing_full : put ≡ NoRoom → ComponentsPut image h words n from to made NoRoom bytes₀ bytes'
+      pub printing_full : put ≡ None → ComponentsPut image h words n from to made None bytes₀ bytes'
       printing_full full =
           let over = not_ended bytes end c.text (sym full ∙ c.ended) in
           let same : bytes' ≡ bytes = c.stored ∙ sym (no_room bytes end c.text over).1 in
@@ -137,10 +136,10 @@ module _ (image : List ℕ) (h : Header) (words : List ℕ) (n from to made : �
             long = ap length same ∙ p.long;
             before = ap (take made) same ∙ p.kept;
             ends = (no_room bytes₀ made whole (omega (arith, size, p.long))).0;
-            text = λ e q. let z : ◌≡◌ {A = ℕ} 0 1 = cc in absurd (omega arith);
+            text = λ e q. absurd (cc);
           }
 
-      pub printing_more : (next : ℕ) → put ≡ End next → Printing bytes' next at' (onward image h i)
+      pub printing_more : (next : ℕ) → put ≡ Some next → Printing bytes' next at' (onward image h i)
       printing_more next e =
           let last : (next ≡ end + length c.text) × (next ≤ length bytes) = ended bytes end c.text (sym e ∙ c.ended) in
           let front : take next bytes' ≡ take end bytes ++ c.text = ap₂ take last.0 c.stored ∙ take_put_end bytes end c.text (omega arith) in

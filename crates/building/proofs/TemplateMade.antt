@@ -11,11 +11,11 @@ use lib.ListN.{length, set, take, drop}
 use lib.Seq.{length-take-le}
 use Rattle.packed.specs.declared.layout.Header.{Header}
 use Rattle.packed.specs.Layout.{node_at}
-use Rattle.numbers.specs.declared.decimal.Put.TheVariants.{End, NoRoom}
+use Rattle.std.specs.Prelude.{Some, None, Ok, Err}
 use Rattle.rules.specs.declared.Value.{Value}
 use Rattle.rules.specs.declared.Value.TheVariants.{Unit as VUnit, Bool as VBool, Char, Unsigned, Signed, Float as VFloat, Text, Bytes, Vec, Tuple, Object}
 use Rattle.rules.specs.declared.Refusal.TheVariants.{TextBytes}
-use Rattle.rules.specs.declared.Got.TheVariants.{Is, Not}
+use Rattle.rules.specs.Targets.{refusing}
 use Rattle.rules.specs.Store.{Store, empty, with_text, dropped, literal_text, text_of as part_of}
 use Rattle.rules.specs.Building.{gives, built_text, printed, or_nothing, template_text}
 use Rattle.rules.specs.Machine.{whole_chain}
@@ -70,18 +70,18 @@ module _ (image : List ℕ) (h : Header) (n from : ℕ) (run words bytes bytes' 
   length-made : length (take made bytes) ≡ made
   length-made = length-take-le made bytes (omega (arith, f.text, room))
 
-  pub template_refused : ComponentsPut image h words n from (pending_of run) made NoRoom bytes bytes'
-      → Makes (Not TextBytes n) (template_made image h n from) run words bytes run words bytes'
+  pub template_refused : ComponentsPut image h words n from (pending_of run) made None bytes bytes'
+      → Makes (Err (refusing TextBytes n)) (template_made image h n from) run words bytes run words bytes'
   unfolding store_of built_text
   template_refused put =
       let over = not_ended bytes made whole put.ends in
       record {
         did = is_built ∙ rw (lt-leb (length (take made bytes) + length whole) 16384 (omega (arith, length-made)));
-        undone = λ why place e. rw put.before;
+        undone = λ r e. rw put.before;
         kept = kept_bytes f put.long;
       }
 
-  module _ (end : ℕ) (put : ComponentsPut image h words n from (pending_of run) made (End end) bytes bytes') where
+  module _ (end : ℕ) (put : ComponentsPut image h words n from (pending_of run) made (Some end) bytes bytes') where
     pub template_size : (made + length whole ≤ 16384) × (end ≡ made + length whole)
     template_size =
         let last : (end ≡ made + length whole) × (end ≤ length bytes) = ended bytes made whole put.ends in (omega (arith, room), last.0)
@@ -93,7 +93,7 @@ module _ (image : List ℕ) (h : Header) (n from : ℕ) (run words bytes bytes' 
           let back = given_back words bytes' f in
           text_set run' words bytes' end back.kept.fits.run_length ∙ ap₂ with_text (put.text end refl) back.store
 
-      pub template_made_lem : Makes (Is (Text (h.text + made) (end - made))) (template_made image h n from) run words bytes (set run' 6 end) words bytes'
+      pub template_made_lem : Makes (Ok (Text (h.text + made) (end - made))) (template_made image h n from) run words bytes (set run' 6 end) words bytes'
       unfolding store_of built_text
       template_made_lem =
           let back = given_back words bytes' f in
@@ -104,6 +104,6 @@ module _ (image : List ℕ) (h : Header) (n from : ℕ) (run words bytes bytes' 
                 ∙ rw (le-leb (length (take made bytes) + length whole) 16384 (omega (arith, length-made, template_size.0)))
                 (ap₂ (λ (k l : ℕ). gives (Text (h.text + k) l) (with_text (take made bytes ++ whole) (dropped from (store_of run words bytes)))) length-made size
                 ∙ ap (gives (Text (h.text + made) (end - made))) (sym new_store));
-            undone = λ why place e. let z : ◌≡◌ {A = ℕ} 0 1 = cc in absurd (omega arith);
+            undone = λ r e. absurd (cc);
             kept = kept_then (kept_bytes f put.long) (kept_then back.kept (kept_text run' words end bytes' back.kept.fits (omega (arith, template_size))));
           }

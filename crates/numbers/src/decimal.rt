@@ -3,6 +3,7 @@ ghost use Rattle.std.specs.Prelude.{◌≡◌, ◌-◌, ◌≤◌, length};
 ghost use Rattle.std.proofs.lemmas.List.Edits.{sets};
 ghost use Rattle.numbers.specs.Decimal.{digits_of, decimal_of, put_of, end_of};
 
+// A `while`, since nothing is walked: how many digits there are shows only as the rest shrinks.
 fn digits_len(n: u64) -> usize
     ensures { (result ≡ length (digits_of n)) × (result ≤ 20) }
 {
@@ -25,7 +26,7 @@ pub fn decimal_len(x: i64) -> usize
     digits + 1
 }
 
-// Puts the digits of n just before `end`, the last one first.
+// Puts the digits of n just before `end`, the last one first. A `while` as above: it ends where no digit is left.
 fn put_digits(out: &mut [u8], end: usize, n: u64)
     requires { (length (digits_of n) ≤ end) × (end ≤ length out.old) }
     ensures { out.new ≡ sets out.old (end - length (digits_of n)) (digits_of n) }

@@ -50,7 +50,7 @@ impl From<ArithRefusal> for OpError {
     }
 }
 
-// What a binary operation on two numbers gives.
+// What a binary operation on two numbers gives. It derives no equality, since a NaN is not equal to itself.
 #[derive(Clone, Copy)]
 pub enum Number {
     Signed(i64),

@@ -1,4 +1,4 @@
-// An i64 and an f64 as a word of 64 bits, and back.
+// An i64 and an f64 as a word of 64 bits, and back. They are functions, and no `From`, since each says by its contract which word it is.
 ghost use Rattle.std.specs.Prelude.{◌≡◌};
 ghost use Rattle.numbers.specs.Words.{word_of, int_of};
 ghost use Rattle.numbers.specs.Floats.{float_word_of, float_of};

@@ -54,6 +54,7 @@ const WORDS: [u64; 12] = [
     0xffff_ffff_ffff_ffff,
 ];
 
+// By `put_decimal`, which is held to the oracle here.
 fn print_int(rt: &impl Print, x: i64) -> io::Result<()> {
     let mut text = [0u8; 20];
     let Some(n) = put_decimal(&mut text, 0, x) else {

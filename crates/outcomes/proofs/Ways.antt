@@ -1,5 +1,6 @@
 -- Ways of the machine put together: a way and what follows it; an outcome that passes the frames that wait for a value. Assumes nothing.
 use Prim.Native.Nat.{ℕ}
+use Rattle.std.specs.Prelude.{Result, Ok, Err}
 use mathlib.Core.Path.{◌≡◌, refl, ap, ◌∙◌, subst}
 use mathlib.Core.Bool.{Bool, true, false, ◌&&◌}
 use mathlib.Core.Option.{Option}
@@ -10,8 +11,7 @@ use Rattle.packed.specs.declared.layout.Header.{Header}
 use Rattle.rules.specs.declared.Value.{Value}
 use Rattle.rules.specs.declared.Refusal.{Refusal}
 use Rattle.rules.specs.Store.{Store}
-use Rattle.rules.specs.declared.Got.{Got}
-use Rattle.rules.specs.declared.Got.TheVariants.{Is, Not}
+use Rattle.rules.specs.declared.Refused.{Refused as WasRefused}
 use Rattle.rules.specs.Targets.{Wrote}
 use Rattle.rules.specs.Building.{Made}
 use Rattle.rules.specs.Machine.{Ctl, ret, brk, Frame, going, stop, made, wrote, bound}
@@ -19,8 +19,6 @@ use Rattle.rules.specs.Go.{Go}
 use Rattle.rules.proofs.Going.{stay, to, ◌then◌}
 use Rattle.rules.proofs.BreakMoves.{passes, break_passes}
 use Rattle.stores.specs.Stores.{store_of, takes_of, Fits, Became, Makes, Tried}
-use Rattle.targets.specs.declared.Written.{Written}
-use Rattle.targets.specs.declared.Written.TheVariants.{Done as WDone, Refused as WRefused}
 use Rattle.targets.specs.Reading.{Writes}
 use Rattle.outcomes.specs.declared.Outcome.{Outcome}
 use Rattle.outcomes.specs.declared.Outcome.TheVariants.{Done, Broke, Refused, Spent}
@@ -189,18 +187,18 @@ module _ {image : List ℕ} {h : Header} {t₀ : Ctl} {fs₀ : List Frame} {run 
   refused p fits long = record { ways = record { path = p }; fits = fits; room = long }
 
   -- what is made of the store, by a function that keeps the takes
-  pub made_post : {r : Got} {f : Store → Made}
+  pub made_post : {r : Result Value WasRefused} {f : Store → Made}
       → ((K : List Frame) → Go image h (takes_of run) (going t₀ (fs₀ ++ K) (store_of run words bytes)) (takes_of run) (made image h K (f (store_of run words bytes))))
       → Makes r f run words bytes run₁ words₁ bytes₁ → Post image h t₀ fs₀ run words bytes run₁ words₁ bytes₁ (got_of r)
-  made_post {r = Is v} p m = ended (λ K. rw m.kept.takes (to (p K) (ap (made image h K) m.did))) m.kept.fits m.kept.room
-  made_post {r = Not why place} p m = refused (λ K. rw m.kept.takes (to (p K) (ap (made image h K) m.did))) m.kept.fits m.kept.room
+  made_post {r = Ok v} p m = ended (λ K. rw m.kept.takes (to (p K) (ap (made image h K) m.did))) m.kept.fits m.kept.room
+  made_post {r = Err e} p m = refused (λ K. rw m.kept.takes (to (p K) (ap (made image h K) m.did))) m.kept.fits m.kept.room
 
   -- and what is written to it
-  pub wrote_post : {r : Written} {f : Store → Wrote}
+  pub wrote_post : {r : Result (Unit {0}) WasRefused} {f : Store → Wrote}
       → ((K : List Frame) → Go image h (takes_of run) (going t₀ (fs₀ ++ K) (store_of run words bytes)) (takes_of run) (wrote image h K (f (store_of run words bytes))))
       → Writes r f run words bytes run₁ words₁ bytes₁ → Post image h t₀ fs₀ run words bytes run₁ words₁ bytes₁ (written_of r)
-  wrote_post {r = WDone} p m = ended (λ K. rw m.kept.takes (to (p K) (ap (wrote image h K) m.did))) m.kept.fits m.kept.room
-  wrote_post {r = WRefused why place} p m = refused (λ K. rw m.kept.takes (to (p K) (ap (wrote image h K) m.did))) m.kept.fits m.kept.room
+  wrote_post {r = Ok u} p m = ended (λ K. rw m.kept.takes (to (p K) (ap (wrote image h K) m.did))) m.kept.fits m.kept.room
+  wrote_post {r = Err e} p m = refused (λ K. rw m.kept.takes (to (p K) (ap (wrote image h K) m.did))) m.kept.fits m.kept.room
 
   -- and what is bound in it
   pub bound_post : {r : Bool} {f : Store → Option Store} (n : ℕ) (v : Value)

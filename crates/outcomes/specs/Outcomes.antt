@@ -1,25 +1,22 @@
 -- What was got, written or bound, as an outcome; a node of an image that loads.
-use Rattle.std.specs.Prelude.{ℕ, ◌≤◌, ◌≡◌, Bool, true, false, List, Ok}
+use Rattle.std.specs.Prelude.{ℕ, ◌≤◌, ◌≡◌, Bool, true, false, List, Result, Ok, Err}
 use Rattle.packed.specs.declared.layout.Header.{Header}
 use Rattle.image.specs.Load.{load_of}
 use Rattle.rules.specs.declared.Value.{Value}
 use Rattle.rules.specs.declared.Value.TheVariants.{Unit as VUnit}
 use Rattle.rules.specs.declared.Refusal.TheVariants.{Bindings}
-use Rattle.rules.specs.declared.Got.{Got}
-use Rattle.rules.specs.declared.Got.TheVariants.{Is, Not}
-use Rattle.targets.specs.declared.Written.{Written}
-use Rattle.targets.specs.declared.Written.TheVariants.{Done as WDone, Refused as WRefused}
+use Rattle.rules.specs.declared.Refused.{Refused as WasRefused}
 use Rattle.outcomes.specs.declared.Outcome.{Outcome}
 use Rattle.outcomes.specs.declared.Outcome.TheVariants.{Done, Broke, Refused, Spent}
 
-abbrev pub got_of : Got → Outcome
-got_of (Is v) = Done v
-got_of (Not why place) = Refused why place
+abbrev pub got_of : Result Value WasRefused → Outcome
+got_of (Ok v) = Done v
+got_of (Err e) = Refused e.why e.place
 
 -- "Set, assign and decl give unit"
-abbrev pub written_of : Written → Outcome
-written_of WDone = Done VUnit
-written_of (WRefused why place) = Refused why place
+abbrev pub written_of : Result (Unit {0}) WasRefused → Outcome
+written_of (Ok u) = Done VUnit
+written_of (Err e) = Refused e.why e.place
 
 abbrev pub bound_of : Bool → ℕ → Value → Outcome
 bound_of true n v = Done v

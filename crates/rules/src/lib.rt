@@ -9,6 +9,7 @@ use numbers::ArithRefusal;
 
 // A value while a constant is worked out. Text is a place and a length in the image's text and, after it, the text that was built in this
 // run; bytes stand in the image's text. A vec, a tuple and an object are shared: the value is the number of the cell that heads them.
+// It derives no equality, since a NaN is not equal to itself.
 #[derive(Clone, Copy)]
 pub enum Value {
     Unit,

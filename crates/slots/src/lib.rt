@@ -62,7 +62,7 @@ impl From<Value> for Slot {
     }
 }
 
-// The value of a literal's kind and payload.
+// The value of a literal's kind and payload. The kind is a number, as the image has it.
 #[tactic(auto, unfolding(rules::specs::Building::literal_of))]
 pub fn literal_of(kind: u64, payload: u64) -> Value
     ensures { result ≡ literal_of kind payload }
@@ -79,7 +79,7 @@ pub fn literal_of(kind: u64, payload: u64) -> Value
     }
 }
 
-// The value of a kind and a payload: a handle, or a literal's.
+// The value of a kind and a payload: a handle, or a literal's. The kind is a number, as the words of a store have it.
 #[tactic(auto, unfolding(crate::specs::Slot::value_of))]
 pub fn value_of(kind: u64, payload: u64) -> Value
     ensures { result ≡ value_of kind payload }
