@@ -193,7 +193,7 @@ found_below name from to words i found =
     omega (arith, w.0, w.1, length-drop from bs, length-view binding_in 0 3 to words)
 
 -- the last binding of a name in the innermost scope
-abbrev in_scope : ℕ → List ℕ → List ℕ → Option ℕ
+abbrev in_scope : ℕ → Run → List ℕ → Option ℕ
 in_scope name run words = last_of name (scope_of run) (drop (scope_of run) (bindings_in (bound_of run) words))
 
 module _ (name : ℕ) (run : Run) (words : List ℕ) (v : Value) (f : Fits run words) where
@@ -306,7 +306,6 @@ became_copied first from count run words words' bytes f copied =
       kept =
           kept_same
           record {
-
             words_length = omega (arith, f.words_length, copied.long);
             bindings = f.bindings;
             pending = f.pending;

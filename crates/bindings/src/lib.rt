@@ -5,12 +5,13 @@ ghost use Rattle.std.specs.Prelude.{◌≡◌, ◌+◌, ◌-◌, ◌≤◌, ◌<
 ghost use Rattle.rules.specs.Store.{last_of, rebound, declared, opened, emptied, closed};
 ghost use Rattle.bindings.specs.Scopes.{Sought, BoundAt, first_bindings, arguments_bound, broken_out, call_ended, Copied};
 ghost use Rattle.stores.specs.Finding.{found_of};
-ghost use Rattle.stores.specs.Stores.{Fits, BecameRun, BecameWords, TriedWords, bindings_in};
+ghost use Rattle.stores.specs.Lent.{StoresBecame, StoresTried};
+ghost use Rattle.stores.specs.Stores.{bindings_in};
 
 use rules::Value;
 use slots::{put_slot, value_of};
+use stores::lent::Stores;
 use stores::pending::{drop_pending, pending_since};
-use stores::run::Run;
 
 // The last binding of a name, from number `from` up to `to`.
 fn last_of(words: &[u64], name: u64, from: usize, to: usize) -> Option<usize>
@@ -25,32 +26,41 @@ fn last_of(words: &[u64], name: u64, from: usize, to: usize) -> Option<usize>
     None
 }
 
-// A name, from the innermost scope outward to the called function's argument scope.
-pub fn look_up(words: &[u64], run: &Run, name: u16) -> Option<usize>
-    requires { Fits run.now words.now }
-    ensures { Sought result run.now words.now name }
+// The same up to the last of all.
+fn bound_from(stores: &Stores, name: u16, from: u64) -> Option<usize>
+    ensures { result ≡ found_of (last_of name from (drop from (bindings_in stores.now.run.bound stores.now.words.now))) }
 {
-    last_of(words, name as u64, run.floor as usize, run.bound as usize)
+    last_of(
+        stores.words,
+        name as u64,
+        from as usize,
+        stores.run.bound as usize,
+    )
+}
+
+// A name, from the innermost scope outward to the called function's argument scope.
+pub fn look_up(stores: &Stores, name: u16) -> Option<usize>
+    ensures { Sought result stores.now.run stores.now.words.now name }
+{
+    bound_from(stores, name, stores.run.floor)
 }
 
 // The value of binding i; unit where there is none.
-pub fn bound_at(words: &[u64], run: &Run, i: usize) -> Value
-    requires { Fits run.now words.now }
-    ensures { BoundAt result run.now words.now i }
+pub fn bound_at(stores: &Stores, i: usize) -> Value
+    ensures { BoundAt result stores.now.run stores.now.words.now i }
 {
-    if i < run.bound as usize {
-        return value_of(words[3 * i + 1], words[3 * i]);
+    if i < stores.run.bound as usize {
+        return value_of(stores.words[3 * i + 1], stores.words[3 * i]);
     }
     Value::Unit
 }
 
 // Another value for binding i, if there is one.
-pub fn rebind(words: &mut [u64], run: &Run, i: usize, v: Value)
-    requires { Fits run.now words.old }
-    ensures { BecameWords (λ σ. rebound σ i v) run.now words.old run.now words.new }
+pub fn rebind(stores: &mut Stores, i: usize, v: Value)
+    ensures { StoresBecame (λ σ. rebound σ i v) stores.old stores.new }
 {
-    if i < run.bound as usize {
-        put_slot(words, 3 * i, v);
+    if i < stores.run.bound as usize {
+        put_slot(stores.words, 3 * i, v);
     }
 }
 
@@ -58,86 +68,85 @@ pub fn rebind(words: &mut [u64], run: &Run, i: usize, v: Value)
 const MOST_BINDINGS: u64 = 256;
 
 // A name bound in the innermost scope: a binding of that scope is replaced; false where a new one would be the 257th.
-pub fn declare(words: &mut [u64], run: &mut Run, name: u16, v: Value) -> bool
-    requires { Fits run.old words.old }
-    ensures { TriedWords result (λ σ. declared σ name v) run.old words.old run.new words.new }
+pub fn declare(stores: &mut Stores, name: u16, v: Value) -> bool
+    ensures { StoresTried result (λ σ. declared σ name v) stores.old stores.new }
 {
-    let count = run.bound;
+    let innermost = stores.run.scope;
+    let count = stores.run.bound;
     let bound = count as usize;
-    if let Some(at) = last_of(words, name as u64, run.scope as usize, bound) {
-        put_slot(words, 3 * at, v);
+    if let Some(at) = bound_from(stores, name, innermost) {
+        put_slot(stores.words, 3 * at, v);
         return true;
     }
     if MOST_BINDINGS <= count {
         return false;
     }
-    put_slot(words, 3 * bound, v);
-    words[3 * bound + 2] = name as u64;
-    run.bound = count + 1;
+    put_slot(stores.words, 3 * bound, v);
+    stores.words[3 * bound + 2] = name as u64;
+    stores.run.bound = count + 1;
     true
 }
 
 // A scope opened.
-pub fn open(run: &mut Run)
-    ensures { BecameRun opened run.old run.new }
+pub fn open(stores: &mut Stores)
+    ensures { StoresBecame opened stores.old stores.new }
 {
-    run.scope = run.bound;
+    stores.run.scope = stores.run.bound;
 }
 
 // The bindings past the first `count` given back.
-fn keep(run: &mut Run, count: u64)
-    ensures { BecameRun (first_bindings count) run.old run.new }
+fn keep(stores: &mut Stores, count: u64)
+    ensures { StoresBecame (first_bindings count) stores.old stores.new }
 {
-    if count < run.bound {
-        run.bound = count;
+    if count < stores.run.bound {
+        stores.run.bound = count;
     }
 }
 
 // The innermost scope emptied.
-pub fn empty(run: &mut Run)
-    ensures { BecameRun emptied run.old run.new }
+pub fn empty(stores: &mut Stores)
+    ensures { StoresBecame emptied stores.old stores.new }
 {
-    let scope = run.scope;
-    keep(run, scope);
+    let scope = stores.run.scope;
+    keep(stores, scope);
 }
 
 // The innermost scope closed; the one before it begins at `scope`.
-pub fn close(run: &mut Run, scope: u64)
-    ensures { BecameRun (closed scope) run.old run.new }
+pub fn close(stores: &mut Stores, scope: u64)
+    ensures { StoresBecame (closed scope) stores.old stores.new }
 {
-    let from = run.scope;
-    break_out(run, scope, from);
+    let from = stores.run.scope;
+    break_out(stores, scope, from);
 }
 
 // Every scope from binding `from` on dropped, as a break leaves them; the one before begins at `scope`.
-pub fn break_out(run: &mut Run, scope: u64, from: u64)
-    ensures { BecameRun (broken_out scope from) run.old run.new }
+pub fn break_out(stores: &mut Stores, scope: u64, from: u64)
+    ensures { StoresBecame (broken_out scope from) stores.old stores.new }
 {
-    keep(run, from);
-    run.scope = scope;
+    keep(stores, from);
+    stores.run.scope = scope;
 }
 
 // A call's arguments, the pending items from `from` on, bound to consecutive names from `first` on in a scope of their own, below which no name is sought; all
 // or, where there would be more than 256 bindings, none.
-pub fn bind_arguments(words: &mut [u64], run: &mut Run, first: u16, from: u64) -> bool
-    requires { Fits run.old words.old }
-    ensures { TriedWords result (arguments_bound first from) run.old words.old run.new words.new }
+pub fn bind_arguments(stores: &mut Stores, first: u16, from: u64) -> bool
+    ensures { StoresTried result (arguments_bound first from) stores.old stores.new }
 {
-    let bound = run.bound;
-    let count = pending_since(run, from);
+    let bound = stores.run.bound;
+    let count = pending_since(stores, from);
     if MOST_BINDINGS < bound + count {
         return false;
     }
     copy_arguments(
-        words,
+        stores.words,
         bound as usize,
         first as u64,
         from as usize,
         count as usize,
     );
-    run.scope = bound;
-    run.floor = bound;
-    run.bound = bound + count;
+    stores.run.scope = bound;
+    stores.run.floor = bound;
+    stores.run.bound = bound + count;
     true
 }
 
@@ -158,10 +167,10 @@ fn copy_arguments(words: &mut [u64], bound: usize, first: u64, from: usize, coun
 }
 
 // A call ended: its argument scope closed, its arguments no longer pending, and the caller's scope and floor as they were.
-pub fn end_call(run: &mut Run, scope: u64, floor: u64, pending: u64)
-    ensures { BecameRun (call_ended scope floor pending) run.old run.new }
+pub fn end_call(stores: &mut Stores, scope: u64, floor: u64, pending: u64)
+    ensures { StoresBecame (call_ended scope floor pending) stores.old stores.new }
 {
-    close(run, scope);
-    run.floor = floor;
-    drop_pending(run, pending);
+    close(stores, scope);
+    stores.run.floor = floor;
+    drop_pending(stores, pending);
 }

@@ -10,10 +10,10 @@ pub put_slot-requires : goal.put_slot-requires
 put_slot-requires c = omega (arith, found_below _ _ _ _ _ c.in-Some.ensures)
 
 pub returns-in-Some : goal.returns-in-Some
-returns-in-Some c = declare_again _ _ _ _ c.requires _ _ c.in-Some.ensures c.put_slot.ensures
+returns-in-Some c = declare_again _ _ _ _ c.args.stores.now.fits _ _ c.in-Some.ensures c.put_slot.ensures _
 
 pub returns-then-count-ge-MOST_BINDINGS : goal.returns-then-count-ge-MOST_BINDINGS
-returns-then-count-ge-MOST_BINDINGS c = declare_full _ _ _ _ c.requires c.in_default.ensures c.if-count-ge-MOST_BINDINGS.true
+returns-then-count-ge-MOST_BINDINGS c = declare_full _ _ _ _ c.args.stores.now.fits c.in_default.ensures c.if-count-ge-MOST_BINDINGS.true _
 
 pub returns : goal.returns
-returns c = declare_new _ _ _ _ c.requires c.in_default.ensures _ c.if-count-ge-MOST_BINDINGS.false c.put_slot-2.ensures
+returns c = declare_new _ _ _ _ c.args.stores.now.fits c.in_default.ensures _ c.if-count-ge-MOST_BINDINGS.false c.put_slot-2.ensures _

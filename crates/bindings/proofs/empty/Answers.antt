@@ -7,4 +7,4 @@ use Rattle.bindings.proofs.empty.Goals as goal
 
 pub returns : goal.returns
 unfolding store_of
-returns c words bytes f = became_as _ emptied refl (c.keep.ensures words bytes f)
+returns c = became_as _ emptied refl c.keep.ensures

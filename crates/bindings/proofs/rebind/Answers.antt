@@ -2,8 +2,8 @@
 use Rattle.bindings.proofs.ScopeLaws.{rebind_some, rebind_none}
 use Rattle.bindings.proofs.rebind.Goals as goal
 
-pub returns-then-i-run : goal.returns-then-i-run
-returns-then-i-run c = rebind_some _ _ _ _ _ c.requires c.if-i-run.true c.put_slot.ensures
+pub returns-then-i-stores : goal.returns-then-i-stores
+returns-then-i-stores c = rebind_some _ _ _ _ _ c.args.stores.now.fits c.if-i-stores.true c.put_slot.ensures _
 
-pub returns-else-i-run : goal.returns-else-i-run
-returns-else-i-run c = rebind_none _ _ _ _ c.requires c.if-i-run.false
+pub returns-else-i-stores : goal.returns-else-i-stores
+returns-else-i-stores c = rebind_none _ _ _ _ c.args.stores.now.fits c.if-i-stores.false _
