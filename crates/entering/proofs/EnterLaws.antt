@@ -16,12 +16,14 @@ use Rattle.rules.specs.Go.{Go}
 use Rattle.rules.proofs.Going.{stay, ◌then◌}
 use Rattle.rules.proofs.Moves.{Enters, expression, body, entering_takes, again_takes, too_deep, entered_once, entered_first, entered_again, body_entered_lem}
 use Rattle.stores.specs.Stores.{store_of, takes_of, Fits}
-use Rattle.stores.proofs.Numbers.{fits_set}
+use Rattle.stores.proofs.Numbers.{fits_takes, takes_set}
 use Rattle.outcomes.specs.declared.Outcome.{Outcome}
 use Rattle.std.specs.declared.ops.ControlFlow.{ControlFlow}
 use Rattle.outcomes.specs.Post.{Starved}
 use Rattle.entering.specs.Entering.{Took, took, deep, spent, Entered}
 use Rattle.outcomes.proofs.KindLaws.{every_kind}
+use Rattle.stores.specs.declared.run.Run.{Run}
+use Rattle.stores.specs.Run.{set_takes}
 
 -- ---- how often each kind takes
 
@@ -109,28 +111,15 @@ module _ (image : List ℕ) (h : Header) where
 
 -- ---- what the takes leave: a number of the run that is no part of the store
 
-takes_set : (run words bytes : List ℕ) (x : ℕ) → store_of (set run 0 x) words bytes ≡ store_of run words bytes
-unfolding store_of
-takes_set [] words bytes x = refl
-takes_set (y ∷ run) words bytes x = refl
-
-module _ (run words : List ℕ) (x : ℕ) (room : Fits run words) where
-  takes_left : takes_of (set run 0 x) ≡ x
-  takes_left = get_or-set_same run 0 x 0 (omega (arith, room.run_length))
-
-  still_fits : Fits (set run 0 x) words
-  still_fits =
-      fits_set run words 0 x room (omega arith) (λ e. absurd (omega arith)) (λ e. absurd (omega arith)) (λ e. absurd (omega arith)) (λ e. absurd (omega arith))
-
-pub entered_by : {image : List ℕ} {h : Header} {t : Ctl} {n d takes : ℕ} {run run' : List ℕ} {r : ControlFlow Outcome (Unit {0})}
+pub entered_by : {image : List ℕ} {h : Header} {t : Ctl} {n d takes : ℕ} {run run' : Run} {r : ControlFlow Outcome (Unit {0})}
     → Entry image h t n d takes → Took n d takes run run' r → Entered image h t n d run run' r
 entered_by {takes = takes} {run = run} entry (took fits enough) =
     let x = takes_of run - takes in
     record {
       advance = λ words bytes room.
           record {
-            ways = record { path = λ K. rw (takes_left run words x room, takes_set run words bytes x) (entry.way fits (takes_of run) enough K (store_of run words bytes)) };
-            fits = still_fits run words x room;
+            ways = record { path = λ K. rw (takes_set run words bytes x) (entry.way fits (takes_of run) enough K (store_of run words bytes)) };
+            fits = fits_takes run words x room;
             room = refl;
           };
       shallow = λ e. fits;
@@ -144,8 +133,8 @@ entered_by {run = run} entry (spent fits few) =
     record {
       advance = λ words bytes room.
           record {
-            ways = rw (takes_left run words 0 room) (entry.starves fits (takes_of run) few (store_of run words bytes));
-            fits = still_fits run words 0 room;
+            ways = entry.starves fits (takes_of run) few (store_of run words bytes);
+            fits = fits_takes run words 0 room;
             room = refl;
           };
       shallow = λ e. fits;

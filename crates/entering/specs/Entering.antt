@@ -9,18 +9,20 @@ use Rattle.outcomes.specs.declared.Outcome.{Outcome}
 use Rattle.std.specs.declared.ops.ControlFlow.{ControlFlow}
 use Rattle.std.specs.declared.ops.ControlFlow.TheVariants.{Continue, Break}
 use Rattle.outcomes.specs.Post.{AdvanceRun}
+use Rattle.stores.specs.declared.run.Run.{Run}
+use Rattle.stores.specs.Run.{set_takes}
 
 -- so many takes at node n in depth d: all of them, none as it is too deep, or those that are left
-pub data Took (n d takes : ℕ) (run : List ℕ) : List ℕ → ControlFlow Outcome (Unit {0}) → Type 0 where
-  took : d ≤ most_depth → takes ≤ takes_of run → Took n d takes run (set run 0 (takes_of run - takes)) (Continue tt)
+pub data Took (n d takes : ℕ) (run : Run) : Run → ControlFlow Outcome (Unit {0}) → Type 0 where
+  took : d ≤ most_depth → takes ≤ takes_of run → Took n d takes run (set_takes run (takes_of run - takes)) (Continue tt)
   deep : most_depth < d → Took n d takes run run (Break (Refused Depth n))
-  spent : d ≤ most_depth → takes_of run < takes → Took n d takes run (set run 0 0) (Break (Spent n))
+  spent : d ≤ most_depth → takes_of run < takes → Took n d takes run (set_takes run 0) (Break (Spent n))
 
 -- from the control t₀ that enters node n to its work
-pub record Entered (image : List ℕ) (h : Header) (t₀ : Ctl) (n d : ℕ) (run run' : List ℕ) (r : ControlFlow Outcome (Unit {0})) : Type 0 where
+pub record Entered (image : List ℕ) (h : Header) (t₀ : Ctl) (n d : ℕ) (run run' : Run) (r : ControlFlow Outcome (Unit {0})) : Type 0 where
   pub advance : AdvanceRun image h t₀ (work n d) run run' r
   pub shallow : r ≡ Continue tt → d ≤ most_depth
 
 -- a body takes once, whatever the image
-abbrev pub BodyEntered : ℕ → ℕ → List ℕ → List ℕ → ControlFlow Outcome (Unit {0}) → Type 0
+abbrev pub BodyEntered : ℕ → ℕ → Run → Run → ControlFlow Outcome (Unit {0}) → Type 0
 BodyEntered n d run run' r = (image : List ℕ) (h : Header) → Entered image h (enter_body n d) n d run run' r

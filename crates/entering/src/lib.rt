@@ -1,16 +1,16 @@
 // Entering a node: depth first, then its takes.
 #![tactic(auto)]
 
-ghost use Rattle.std.specs.Prelude.{◌≡◌, cond, ◌≤◌, length};
-ghost use Rattle.packed.specs.Layout.{size_of};
+ghost use Rattle.std.specs.Prelude.{◌≡◌, cond, ◌≤◌};
 ghost use Rattle.rules.specs.Machine.{Ctl, kind_of, takes_more};
 ghost use Rattle.entering.specs.Entering.{Took, Entered, BodyEntered};
 
 use outcomes::Outcome;
-use packed::layout::{Header, node_at};
+use packed::image::Image;
 use rules::Refusal;
 use std::ops::ControlFlow;
-use stores::run::TAKES;
+use stores::lent::Stores;
+use stores::run::Run;
 
 // "scope, binary, decl, set, assign, template, loop and break take once more"
 #[tactic(auto, using(crate::proofs::EnterLaws::takes_by_lem))]
@@ -26,40 +26,38 @@ fn takes_of(kind: u8) -> u64
 
 // "Depth: .. 129 is 7"; then so many takes at node n, of which those that are left are taken where there are not enough.
 #[tactic(auto, using(crate::specs::Entering::took, crate::specs::Entering::deep, crate::specs::Entering::spent))]
-fn take(run: &mut [u64; 16], n: u16, depth: u16, takes: u64) -> ControlFlow<Outcome>
+fn take(run: &mut Run, n: u16, depth: u16, takes: u64) -> ControlFlow<Outcome>
     ensures { Took n depth takes run.old run.new result }
 {
     if 128 < depth {
         return ControlFlow::Break(Outcome::Refused(Refusal::Depth, n));
     }
-    let left = run[TAKES];
+    let left = run.takes;
     if left < takes {
-        run[TAKES] = 0;
+        run.takes = 0;
         return ControlFlow::Break(Outcome::Spent(n));
     }
-    run[TAKES] = left - takes;
+    run.takes = left - takes;
     ControlFlow::Continue(())
 }
 
 // "Entering an expression or body tests depth, then takes once", and eight kinds once more.
-pub fn enter_expr(
-    image: &[u8],
-    h: Header,
-    run: &mut [u64; 16],
-    n: u16,
-    depth: u16,
-) -> ControlFlow<Outcome>
-    requires { (1 ≤ n) × (n ≤ h.nodes) × (size_of h ≤ length image.now) }
-    ensures { Entered image.now h (Ctl.enter n depth) n depth run.old run.new result }
+pub fn enter_expr(image: &Image, stores: &mut Stores, n: u16, depth: u16) -> ControlFlow<Outcome>
+    requires { (1 ≤ n) × (n ≤ image.now.header.nodes) }
+    ensures entered { Entered image.now.bytes.now image.now.header (Ctl.enter n depth) n depth stores.old.run stores.new.run result }
+    ensures words { stores.new.words.now ≡ stores.old.words.now }
+    ensures bytes { stores.new.bytes.now ≡ stores.old.bytes.now }
 {
-    let node = node_at(image, h, n as usize);
+    let node = image.node(n as usize);
     let takes = takes_of(node.kind);
-    take(run, n, depth, takes)
+    take(&mut stores.run, n, depth, takes)
 }
 
 // "A scope that is an arm's, a default, or a loop's body takes once in all", whatever the image.
-pub fn enter_body(run: &mut [u64; 16], n: u16, depth: u16) -> ControlFlow<Outcome>
-    ensures { BodyEntered n depth run.old run.new result }
+pub fn enter_body(stores: &mut Stores, n: u16, depth: u16) -> ControlFlow<Outcome>
+    ensures entered { BodyEntered n depth stores.old.run stores.new.run result }
+    ensures words { stores.new.words.now ≡ stores.old.words.now }
+    ensures bytes { stores.new.bytes.now ≡ stores.old.bytes.now }
 {
-    take(run, n, depth, 1)
+    take(&mut stores.run, n, depth, 1)
 }

@@ -5,9 +5,10 @@ ghost use Rattle.frames.specs.Loops.{told_of, BreakSeen, PassOver};
 
 use bindings::break_out;
 use outcomes::Outcome;
-use packed::layout::{Header, node_at};
+use packed::image::Image;
 use rules::{Refusal, Value};
 use std::ops::ControlFlow;
+use stores::lent::Stores;
 
 // What the condition at node c told: "A condition that isn't bool is 15".
 pub fn told(c: u16, one: Outcome) -> ControlFlow<Outcome, bool>
@@ -24,46 +25,44 @@ pub fn told(c: u16, one: Outcome) -> ControlFlow<Outcome, bool>
 
 // Break b reaches the body of loop n: "ends the loop if the labels are equal"; "A value from a break is the loop's, but 14 if there is a condition".
 fn caught(
-    image: &[u8],
-    h: Header,
-    run: &mut [u64; 16],
+    image: &Image,
+    stores: &mut Stores,
     n: u16,
     b: u16,
     v: Value,
     scope: u64,
     from: u64,
 ) -> Outcome
-    requires { IsNode image.now h n × IsNode image.now h b }
-    ensures { BreakSeen image.now h n b v scope from run.old run.new result }
+    requires { IsNode image.now.bytes.now image.now.header n × IsNode image.now.bytes.now image.now.header b }
+    ensures { BreakSeen image.now.bytes.now image.now.header n b v scope from stores.old stores.new result }
 {
-    let outer = node_at(image, h, n as usize);
-    let inner = node_at(image, h, b as usize);
+    let outer = image.node(n as usize);
+    let inner = image.node(b as usize);
     if inner.tag != outer.tag {
         return Outcome::Broke(b, v);
     }
     if inner.a != 0 && outer.a != 0 {
         return Outcome::Refused(Refusal::BreakWithValue, n);
     }
-    break_out(run, scope, from);
+    break_out(stores, scope, from);
     Outcome::Done(v)
 }
 
 // After a pass through the body of loop n, whose own scope begins at `from` and the one before it at `scope`.
 pub fn after_pass(
-    image: &[u8],
-    h: Header,
-    run: &mut [u64; 16],
+    image: &Image,
+    stores: &mut Stores,
     n: u16,
     scope: u64,
     from: u64,
     one: Outcome,
 ) -> ControlFlow<Outcome>
-    requires { IsNode image.now h n × IsBreak image.now h one }
-    ensures { PassOver image.now h n scope from one run.old run.new result }
+    requires { IsNode image.now.bytes.now image.now.header n × IsBreak image.now.bytes.now image.now.header one }
+    ensures { PassOver image.now.bytes.now image.now.header n scope from one stores.old stores.new result }
 {
     match one {
         Outcome::Done(_) => ControlFlow::Continue(()),
-        Outcome::Broke(b, v) => ControlFlow::Break(caught(image, h, run, n, b, v, scope, from)),
+        Outcome::Broke(b, v) => ControlFlow::Break(caught(image, stores, n, b, v, scope, from)),
         _ => ControlFlow::Break(one),
     }
 }

@@ -26,6 +26,7 @@ use Rattle.std.specs.declared.ops.ControlFlow.{ControlFlow}
 use Rattle.std.specs.declared.ops.ControlFlow.TheVariants.{Continue, Break}
 use Rattle.outcomes.specs.Post.{Came, Ways, Post, WaysOn, Advance, Same, After, AfterOn}
 use Rattle.outcomes.specs.Outcomes.{got_of, written_of, bound_of}
+use Rattle.stores.specs.declared.run.Run.{Run}
 
 -- what is no value
 abbrev pub NoValue : Outcome → Type 0
@@ -77,7 +78,7 @@ module _ {image : List ℕ} {h : Header} where
 
 -- ---- the same of what functions promise: run₁ words₁ bytes₁ stand between
 
-module _ {image : List ℕ} {h : Header} {t₀ : Ctl} {fs₀ : List Frame} {run words bytes run₁ words₁ bytes₁ run₂ words₂ bytes₂ : List ℕ} where
+module _ {image : List ℕ} {h : Header} {t₀ : Ctl} {fs₀ : List Frame} {run : Run} {words bytes : List ℕ} {run₁ : Run} {words₁ bytes₁ : List ℕ} {run₂ : Run} {words₂ bytes₂ : List ℕ} where
   pub post_then : {t₁ : Ctl} {fs₁ : List Frame} {r : Outcome}
       → Came image h t₀ fs₀ (takes_of run) (store_of run words bytes) t₁ fs₁ (takes_of run₁) (store_of run₁ words₁ bytes₁) → length bytes₁ ≡ length bytes
       → Post image h t₁ fs₁ run₁ words₁ bytes₁ run₂ words₂ bytes₂ r → Post image h t₀ fs₀ run words bytes run₂ words₂ bytes₂ r
@@ -97,7 +98,7 @@ module _ {image : List ℕ} {h : Header} {t₀ : Ctl} {fs₀ : List Frame} {run 
   post_past fs {one} pass none p same q =
       record { ways = ways_past fs (takes_of run₂) (store_of run₂ words₂ bytes₂) one pass none p q.ways; fits = q.fits; room = q.room ∙ same }
 
-module _ {image : List ℕ} {h : Header} {t₀ : Ctl} {fs₀ : List Frame} {run₁ words₁ bytes₁ run₂ words₂ bytes₂ : List ℕ} where
+module _ {image : List ℕ} {h : Header} {t₀ : Ctl} {fs₀ : List Frame} {run₁ : Run} {words₁ bytes₁ : List ℕ} {run₂ : Run} {words₂ bytes₂ : List ℕ} where
   -- a value, of an expression for which frames wait
   pub valued : {l₀ : ℕ} {σ₀ : Store} {t₁ : Ctl} {fs : List Frame} {one : Outcome} {v : Value} → one ≡ Done v
       → Came image h t₀ fs₀ l₀ σ₀ t₁ fs (takes_of run₁) (store_of run₁ words₁ bytes₁)
@@ -109,7 +110,7 @@ module _ {image : List ℕ} {h : Header} {t₀ : Ctl} {fs₀ : List Frame} {run�
 
 -- ---- out with an outcome
 
-module _ {image : List ℕ} {h : Header} {t₀ : Ctl} {fs₀ : List Frame} {run words bytes run₁ words₁ bytes₁ : List ℕ} {r : Outcome} where
+module _ {image : List ℕ} {h : Header} {t₀ : Ctl} {fs₀ : List Frame} {run : Run} {words bytes : List ℕ} {run₁ : Run} {words₁ bytes₁ : List ℕ} {r : Outcome} where
   pub out_of : (t : Ctl) (fs : List Frame) → Post image h t₀ fs₀ run words bytes run₁ words₁ bytes₁ r
       → Advance image h t₀ fs₀ t fs run words bytes run₁ words₁ bytes₁ (Break r)
   out_of t fs q = record { ways = q.ways; fits = q.fits; room = q.room }
@@ -120,7 +121,7 @@ module _ {image : List ℕ} {h : Header} {t₀ : Ctl} {fs₀ : List Frame} {run 
 
 -- ---- an outcome and what the frames that wait for it make of it
 
-module _ {image : List ℕ} {h : Header} {fs : List Frame} {run words bytes run₁ words₁ bytes₁ : List ℕ} where
+module _ {image : List ℕ} {h : Header} {fs : List Frame} {run : Run} {words bytes : List ℕ} {run₁ : Run} {words₁ bytes₁ : List ℕ} where
   pub after_out : (t : Ctl) (one : Outcome) {r : Outcome} → After image h fs one run words bytes run₁ words₁ bytes₁ r
       → AfterOn image h fs t one run words bytes run₁ words₁ bytes₁ (Break r)
   after_out t (Done v) a = record { ways = out_of t [] a.ways }
@@ -128,7 +129,7 @@ module _ {image : List ℕ} {h : Header} {fs : List Frame} {run words bytes run�
   after_out t (Refused why place) a = record { ways = (ap Break a.ways.0, a.ways.1) }
   after_out t (Spent place) a = record { ways = (ap Break a.ways.0, a.ways.1) }
 
-module _ {image : List ℕ} {h : Header} {run words bytes : List ℕ} where
+module _ {image : List ℕ} {h : Header} {run : Run} {words bytes : List ℕ} where
   same : Same image h run words bytes run words bytes
   same = record { same_run = refl; same_words = refl; same_bytes = refl }
 
@@ -140,7 +141,7 @@ module _ {image : List ℕ} {h : Header} {run words bytes : List ℕ} where
   after_past fs (Refused why place) pass none fits = record { ways = (refl, same) }
   after_past fs (Spent place) pass none fits = record { ways = (refl, same) }
 
-module _ {image : List ℕ} {h : Header} {t₀ : Ctl} {fs₀ : List Frame} {run words bytes run₁ words₁ bytes₁ run₂ words₂ bytes₂ run₃ words₃ bytes₃ : List ℕ} where
+module _ {image : List ℕ} {h : Header} {t₀ : Ctl} {fs₀ : List Frame} {run : Run} {words bytes : List ℕ} {run₁ : Run} {words₁ bytes₁ : List ℕ} {run₂ : Run} {words₂ bytes₂ : List ℕ} {run₃ : Run} {words₃ bytes₃ : List ℕ} where
   pub advance_after : {t₁ t : Ctl} {fs : List Frame} (one : Outcome) {r : ControlFlow Outcome (Unit {0})}
       → Came image h t₀ fs₀ (takes_of run) (store_of run words bytes) t₁ fs (takes_of run₁) (store_of run₁ words₁ bytes₁) → length bytes₁ ≡ length bytes
       → Post image h t₁ [] run₁ words₁ bytes₁ run₂ words₂ bytes₂ one → AfterOn image h fs t one run₂ words₂ bytes₂ run₃ words₃ bytes₃ r
@@ -177,7 +178,7 @@ module _ {image : List ℕ} {h : Header} {t₀ : Ctl} {fs₀ : List Frame} {run 
 
 -- ---- a way of one or more transitions, and the outcome at its end
 
-module _ {image : List ℕ} {h : Header} {t₀ : Ctl} {fs₀ : List Frame} {run words bytes run₁ words₁ bytes₁ : List ℕ} where
+module _ {image : List ℕ} {h : Header} {t₀ : Ctl} {fs₀ : List Frame} {run : Run} {words bytes : List ℕ} {run₁ : Run} {words₁ bytes₁ : List ℕ} where
   pub ended : {v : Value} → ((K : List Frame) → Go image h (takes_of run) (going t₀ (fs₀ ++ K) (store_of run words bytes)) (takes_of run₁) (going (ret v) K (store_of run₁ words₁ bytes₁)))
       → Fits run₁ words₁ → length bytes₁ ≡ length bytes → Post image h t₀ fs₀ run words bytes run₁ words₁ bytes₁ (Done v)
   ended p fits long = record { ways = record { path = p }; fits = fits; room = long }
@@ -218,7 +219,7 @@ module _ {image : List ℕ} {h : Header} {t₀ : Ctl} {fs₀ : List Frame} {run 
 abbrev pub NoBreak : Outcome → Type 0
 NoBreak r = (b : ℕ) (v : Value) → r ≡ Broke b v → ⊥
 
-module _ {image : List ℕ} {h : Header} {run words bytes : List ℕ} where
+module _ {image : List ℕ} {h : Header} {run : Run} {words bytes : List ℕ} where
   pub after_final : (fs : List Frame) (one : Outcome) → NoValue one → NoBreak one → After image h fs one run words bytes run words bytes one
   after_final fs (Done v) none unbroken = absurd (none v refl)
   after_final fs (Broke b v) none unbroken = absurd (unbroken b v refl)

@@ -11,10 +11,11 @@ use Rattle.outcomes.specs.declared.Outcome.{Outcome}
 use Rattle.outcomes.specs.declared.Outcome.TheVariants.{Done, Broke, Refused, Spent}
 use Rattle.std.specs.declared.ops.ControlFlow.{ControlFlow}
 use Rattle.std.specs.declared.ops.ControlFlow.TheVariants.{Continue, Break}
+use Rattle.stores.specs.declared.run.Run.{Run}
 
 module _ (image : List ℕ) (h : Header) where
   -- a node of an image that loads, and stores that fit
-  pub record Ready (n : ℕ) (run words bytes : List ℕ) : Type 0 where
+  pub record Ready (n : ℕ) (run : Run) (words bytes : List ℕ) : Type 0 where
     pub loaded : load_of image ≡ Ok h
     pub first : 1 ≤ n
     pub last : n ≤ h.nodes
@@ -44,7 +45,7 @@ module _ (image : List ℕ) (h : Header) where
   Ways t₀ fs₀ l₀ σ₀ l σ (Refused why place) = Stopped t₀ fs₀ l₀ σ₀ why place l
   Ways t₀ fs₀ l₀ σ₀ l σ (Spent place) = Starved t₀ fs₀ l₀ σ₀ place l
 
-  pub record Post (t₀ : Ctl) (fs₀ : List Frame) (run words bytes run' words' bytes' : List ℕ) (r : Outcome) : Type 0 where
+  pub record Post (t₀ : Ctl) (fs₀ : List Frame) (run : Run) (words bytes : List ℕ) (run' : Run) (words' bytes' : List ℕ) (r : Outcome) : Type 0 where
     pub ways : Ways t₀ fs₀ (takes_of run) (store_of run words bytes) (takes_of run') (store_of run' words' bytes') r
     pub fits : Fits run' words'
     pub room : length bytes' ≡ length bytes
@@ -54,67 +55,67 @@ module _ (image : List ℕ) (h : Header) where
   WaysOn t₀ fs₀ t fs l₀ σ₀ l σ (Continue u) = Came t₀ fs₀ l₀ σ₀ t fs l σ
   WaysOn t₀ fs₀ t fs l₀ σ₀ l σ (Break r) = Ways t₀ fs₀ l₀ σ₀ l σ r
 
-  pub record Advance (t₀ : Ctl) (fs₀ : List Frame) (t : Ctl) (fs : List Frame) (run words bytes run' words' bytes' : List ℕ) (r : ControlFlow Outcome (Unit {0})) : Type 0 where
+  pub record Advance (t₀ : Ctl) (fs₀ : List Frame) (t : Ctl) (fs : List Frame) (run : Run) (words bytes : List ℕ) (run' : Run) (words' bytes' : List ℕ) (r : ControlFlow Outcome (Unit {0})) : Type 0 where
     pub ways : WaysOn t₀ fs₀ t fs (takes_of run) (store_of run words bytes) (takes_of run') (store_of run' words' bytes') r
     pub fits : Fits run' words'
     pub room : length bytes' ≡ length bytes
 
   -- ---- what becomes of an outcome for which frames wait: a refusal, and a take that was refused, stay as they are
 
-  pub record Same (run words bytes run' words' bytes' : List ℕ) : Type 0 where
+  pub record Same (run : Run) (words bytes : List ℕ) (run' : Run) (words' bytes' : List ℕ) : Type 0 where
     pub same_run : run' ≡ run
     pub same_words : words' ≡ words
     pub same_bytes : bytes' ≡ bytes
 
-  abbrev pub AfterWays : List Frame → List ℕ → List ℕ → List ℕ → List ℕ → List ℕ → List ℕ → Outcome → Outcome → Type 0
+  abbrev pub AfterWays : List Frame → Run → List ℕ → List ℕ → Run → List ℕ → List ℕ → Outcome → Outcome → Type 0
   AfterWays fs run words bytes run' words' bytes' (Done v) r = Post (ret v) fs run words bytes run' words' bytes' r
   AfterWays fs run words bytes run' words' bytes' (Broke b v) r = 1 ≤ b → b ≤ h.nodes → Post (brk b v) fs run words bytes run' words' bytes' r
   AfterWays fs run words bytes run' words' bytes' (Refused why place) r = (r ≡ Refused why place) × Same run words bytes run' words' bytes'
   AfterWays fs run words bytes run' words' bytes' (Spent place) r = (r ≡ Spent place) × Same run words bytes run' words' bytes'
 
-  pub record After (fs : List Frame) (one : Outcome) (run words bytes run' words' bytes' : List ℕ) (r : Outcome) : Type 0 where
+  pub record After (fs : List Frame) (one : Outcome) (run : Run) (words bytes : List ℕ) (run' : Run) (words' bytes' : List ℕ) (r : Outcome) : Type 0 where
     pub ways : AfterWays fs run words bytes run' words' bytes' one r
 
-  abbrev pub AfterWaysOn : List Frame → Ctl → List ℕ → List ℕ → List ℕ → List ℕ → List ℕ → List ℕ → Outcome → ControlFlow Outcome (Unit {0}) → Type 0
+  abbrev pub AfterWaysOn : List Frame → Ctl → Run → List ℕ → List ℕ → Run → List ℕ → List ℕ → Outcome → ControlFlow Outcome (Unit {0}) → Type 0
   AfterWaysOn fs t run words bytes run' words' bytes' (Done v) r = Advance (ret v) fs t [] run words bytes run' words' bytes' r
   AfterWaysOn fs t run words bytes run' words' bytes' (Broke b v) r = 1 ≤ b → b ≤ h.nodes → Advance (brk b v) fs t [] run words bytes run' words' bytes' r
   AfterWaysOn fs t run words bytes run' words' bytes' (Refused why place) r = (r ≡ Break (Refused why place)) × Same run words bytes run' words' bytes'
   AfterWaysOn fs t run words bytes run' words' bytes' (Spent place) r = (r ≡ Break (Spent place)) × Same run words bytes run' words' bytes'
 
-  pub record AfterOn (fs : List Frame) (t : Ctl) (one : Outcome) (run words bytes run' words' bytes' : List ℕ) (r : ControlFlow Outcome (Unit {0})) : Type 0 where
+  pub record AfterOn (fs : List Frame) (t : Ctl) (one : Outcome) (run : Run) (words bytes : List ℕ) (run' : Run) (words' bytes' : List ℕ) (r : ControlFlow Outcome (Unit {0})) : Type 0 where
     pub ways : AfterWaysOn fs t run words bytes run' words' bytes' one r
 
   -- ---- of a function that has not all the stores, for whatever stands in the others
 
-  abbrev pub AdvanceRun : Ctl → Ctl → List ℕ → List ℕ → ControlFlow Outcome (Unit {0}) → Type 0
+  abbrev pub AdvanceRun : Ctl → Ctl → Run → Run → ControlFlow Outcome (Unit {0}) → Type 0
   AdvanceRun t₀ t run run' r = (words bytes : List ℕ) → Fits run words → Advance t₀ [] t [] run words bytes run' words bytes r
 
-  abbrev pub AfterRun : List Frame → Outcome → List ℕ → List ℕ → Outcome → Type 0
+  abbrev pub AfterRun : List Frame → Outcome → Run → Run → Outcome → Type 0
   AfterRun fs one run run' r = (words bytes : List ℕ) → Fits run words → After fs one run words bytes run' words bytes r
 
-  abbrev pub AfterWords : List Frame → Outcome → List ℕ → List ℕ → List ℕ → List ℕ → Outcome → Type 0
+  abbrev pub AfterWords : List Frame → Outcome → Run → List ℕ → Run → List ℕ → Outcome → Type 0
   AfterWords fs one run words run' words' r = (bytes : List ℕ) → After fs one run words bytes run' words' bytes r
 
-  abbrev pub AfterText : List Frame → Outcome → List ℕ → List ℕ → List ℕ → List ℕ → Outcome → Type 0
+  abbrev pub AfterText : List Frame → Outcome → Run → List ℕ → Run → List ℕ → Outcome → Type 0
   AfterText fs one run bytes run' bytes' r = (words : List ℕ) → Fits run words → After fs one run words bytes run' words bytes' r
 
-  abbrev pub AfterRunOn : List Frame → Ctl → Outcome → List ℕ → List ℕ → ControlFlow Outcome (Unit {0}) → Type 0
+  abbrev pub AfterRunOn : List Frame → Ctl → Outcome → Run → Run → ControlFlow Outcome (Unit {0}) → Type 0
   AfterRunOn fs t one run run' r = (words bytes : List ℕ) → Fits run words → AfterOn fs t one run words bytes run' words bytes r
 
-  abbrev pub AfterWordsOn : List Frame → Ctl → Outcome → List ℕ → List ℕ → List ℕ → List ℕ → ControlFlow Outcome (Unit {0}) → Type 0
+  abbrev pub AfterWordsOn : List Frame → Ctl → Outcome → Run → List ℕ → Run → List ℕ → ControlFlow Outcome (Unit {0}) → Type 0
   AfterWordsOn fs t one run words run' words' r = (bytes : List ℕ) → AfterOn fs t one run words bytes run' words' bytes r
 
   -- of one that only reads
-  abbrev pub Gives : Ctl → List ℕ → List ℕ → Outcome → Type 0
+  abbrev pub Gives : Ctl → Run → List ℕ → Outcome → Type 0
   Gives t₀ run words r = (bytes : List ℕ) → Post t₀ [] run words bytes run words bytes r
 
-  abbrev pub PostWords : Ctl → List Frame → List ℕ → List ℕ → List ℕ → List ℕ → Outcome → Type 0
+  abbrev pub PostWords : Ctl → List Frame → Run → List ℕ → Run → List ℕ → Outcome → Type 0
   PostWords t₀ fs₀ run words run' words' r = (bytes : List ℕ) → Post t₀ fs₀ run words bytes run' words' bytes r
 
 -- of one that knows no image
-abbrev pub EveryAfterRun : List Frame → Outcome → List ℕ → List ℕ → Outcome → Type 0
+abbrev pub EveryAfterRun : List Frame → Outcome → Run → Run → Outcome → Type 0
 EveryAfterRun fs one run run' r = (image : List ℕ) (h : Header) → AfterRun image h fs one run run' r
 
 -- a turn of a loop takes
-pub record Falls (r : ControlFlow Outcome (Unit {0})) (run run' : List ℕ) : Type 0 where
+pub record Falls (r : ControlFlow Outcome (Unit {0})) (run run' : Run) : Type 0 where
   pub less : r ≡ Continue tt → takes_of run' < takes_of run

@@ -4,15 +4,15 @@ use Rattle.frames.proofs.calls.enter_call.Goals as goal
 
 pub returns-then-pending_since-function : goal.returns-then-pending_since-function
 returns-then-pending_since-function c =
-    wrong_number c.requires.0 c.requires.1 c.args.from _ c.function_of-function.ensures _ c.pending_since.ensures
+    wrong_number c.requires c.args.stores.now.fits c.args.from _ c.function_of-function.ensures _ c.pending_since.ensures
     c.if-pending_since-function.true
 
 pub returns-then-bind_arguments : goal.returns-then-bind_arguments
 returns-then-bind_arguments c =
-    body_begun c.requires.0 c.requires.1 c.args.from _ c.function_of-function.ensures _ c.pending_since.ensures
+    body_begun c.requires c.args.stores.now.fits c.args.from _ c.function_of-function.ensures _ c.pending_since.ensures
     c.if-pending_since-function.false c.bind_arguments.ensures c.if-bind_arguments.true
 
 pub returns : goal.returns
 returns c =
-    not_bound c.requires.0 c.requires.1 c.args.from _ c.function_of-function.ensures _ c.pending_since.ensures
+    not_bound c.requires c.args.stores.now.fits c.args.from _ c.function_of-function.ensures _ c.pending_since.ensures
     c.if-pending_since-function.false c.bind_arguments.ensures c.if-bind_arguments.false

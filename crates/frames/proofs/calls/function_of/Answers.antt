@@ -2,8 +2,8 @@
 use Rattle.outcomes.proofs.NodeLaws.{node_there, as_node, call_names}
 use Rattle.frames.proofs.calls.function_of.Goals as goal
 
-pub node_at-node-requires : goal.node_at-node-requires
-node_at-node-requires c = node_there (as_node c.requires)
+pub node-node-requires : goal.node-node-requires
+node-node-requires c = node_there (as_node c.requires)
 
-pub function_at-requires : goal.function_at-requires
-function_at-requires c = (rw c.node_at-node.ensures (call_names c.requires), (node_there (as_node c.requires)).2)
+pub function-requires : goal.function-requires
+function-requires c = (rw c.node-node.ensures (call_names c.requires), (node_there (as_node c.requires)).2)

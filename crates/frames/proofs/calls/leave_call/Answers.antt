@@ -9,4 +9,4 @@ pub returns-in-Done : goal.returns-in-Done
 returns-in-Done c = value_left c.args.one (Done _) c.in-Done.is refl (λ image h l K σ. call_done) c.end_call.ensures
 
 pub returns-in-Broke : goal.returns-in-Broke
-returns-in-Broke c = call_broken c.args.one c.in-Broke.is
+returns-in-Broke c = call_broken c.args.one c.in-Broke.is c.args.stores.now.fits

@@ -5,23 +5,23 @@ use Rattle.frames.proofs.LoopLaws.{goes_on, refused_value, loop_ended}
 use Rattle.frames.proofs.loops.caught.Goals as goal
 use Rattle.frames.proofs.loops.caught.Goals.{else-inner-ne0-via-then-inner-ne0+else-outer-ne0, else-inner-ne0-via-else-inner-ne0}
 
-pub node_at-outer-requires : goal.node_at-outer-requires
-node_at-outer-requires c = node_there c.requires.0
+pub node-outer-requires : goal.node-outer-requires
+node-outer-requires c = node_there c.requires.0
 
-pub node_at-inner-requires : goal.node_at-inner-requires
-node_at-inner-requires c = node_there c.requires.1
+pub node-inner-requires : goal.node-inner-requires
+node-inner-requires c = node_there c.requires.1
 
 pub returns-then-inner-outer : goal.returns-then-inner-outer
-returns-then-inner-outer c = goes_on c.args.v c.args.scope c.args.from _ _ c.node_at-outer.ensures c.node_at-inner.ensures c.requires.1 c.if-inner-outer.true
+returns-then-inner-outer c = goes_on c.args.v c.args.scope c.args.from c.args.stores.now.fits _ _ c.node-outer.ensures c.node-inner.ensures c.requires.1 c.if-inner-outer.true
 
 pub returns-then-outer-ne0 : goal.returns-then-outer-ne0
 returns-then-outer-ne0 c =
-    refused_value c.args.v c.args.scope c.args.from _ _ c.node_at-outer.ensures c.node_at-inner.ensures c.if-inner-outer.false
+    refused_value c.args.v c.args.scope c.args.from c.args.stores.now.fits _ _ c.node-outer.ensures c.node-inner.ensures c.if-inner-outer.false
     c.if-inner-ne0.true c.if-outer-ne0.true
 
 pub returns : goal.returns
 returns c =
-    loop_ended c.args.v c.args.scope c.args.from _ _ c.node_at-outer.ensures c.node_at-inner.ensures c.if-inner-outer.false
+    loop_ended c.args.v c.args.scope c.args.from c.args.stores.now.fits _ _ c.node-outer.ensures c.node-inner.ensures c.if-inner-outer.false
     (elim c.else-inner-ne0.branch [
       | else-inner-ne0-via-then-inner-ne0+else-outer-ne0 w ↦ inr w.if-outer-ne0.false
       | else-inner-ne0-via-else-inner-ne0 w ↦ inl w.if-inner-ne0.false

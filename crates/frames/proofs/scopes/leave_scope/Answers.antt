@@ -9,4 +9,4 @@ pub returns-in-Done : goal.returns-in-Done
 returns-in-Done c = value_left c.args.one c.args.one c.in-Done.is c.in-Done.is (λ image h l K σ. scope_closed) c.close.ensures
 
 pub returns-in_default : goal.returns-in_default
-returns-in_default c = λ image h words bytes room. after_past _ c.args.one refl c.in_default.not-Done room
+returns-in_default c = λ image h. after_past _ c.args.one refl c.in_default.not-Done c.args.stores.now.fits
