@@ -57,7 +57,8 @@ pub fn bound_at(stores: &Stores, i: usize) -> Value
 
 // Another value for binding i, if there is one.
 pub fn rebind(stores: &mut Stores, i: usize, v: Value)
-    ensures { StoresBecame (λ σ. rebound σ i v) stores.old stores.new }
+    ensures store { StoresBecame (λ σ. rebound σ i v) stores.old stores.new }
+    ensures bytes { stores.new.bytes.now ≡ stores.old.bytes.now }
 {
     if i < stores.run.bound as usize {
         put_slot(stores.words, 3 * i, v);
@@ -69,7 +70,8 @@ const MOST_BINDINGS: u64 = 256;
 
 // A name bound in the innermost scope: a binding of that scope is replaced; false where a new one would be the 257th.
 pub fn declare(stores: &mut Stores, name: u16, v: Value) -> bool
-    ensures { StoresTried result (λ σ. declared σ name v) stores.old stores.new }
+    ensures store { StoresTried result (λ σ. declared σ name v) stores.old stores.new }
+    ensures bytes { stores.new.bytes.now ≡ stores.old.bytes.now }
 {
     let innermost = stores.run.scope;
     let count = stores.run.bound;
@@ -89,14 +91,18 @@ pub fn declare(stores: &mut Stores, name: u16, v: Value) -> bool
 
 // A scope opened.
 pub fn open(stores: &mut Stores)
-    ensures { StoresBecame opened stores.old stores.new }
+    ensures store { StoresBecame opened stores.old stores.new }
+    ensures words { stores.new.words.now ≡ stores.old.words.now }
+    ensures bytes { stores.new.bytes.now ≡ stores.old.bytes.now }
 {
     stores.run.scope = stores.run.bound;
 }
 
 // The bindings past the first `count` given back.
 fn keep(stores: &mut Stores, count: u64)
-    ensures { StoresBecame (first_bindings count) stores.old stores.new }
+    ensures store { StoresBecame (first_bindings count) stores.old stores.new }
+    ensures words { stores.new.words.now ≡ stores.old.words.now }
+    ensures bytes { stores.new.bytes.now ≡ stores.old.bytes.now }
 {
     if count < stores.run.bound {
         stores.run.bound = count;
@@ -105,7 +111,9 @@ fn keep(stores: &mut Stores, count: u64)
 
 // The innermost scope emptied.
 pub fn empty(stores: &mut Stores)
-    ensures { StoresBecame emptied stores.old stores.new }
+    ensures store { StoresBecame emptied stores.old stores.new }
+    ensures words { stores.new.words.now ≡ stores.old.words.now }
+    ensures bytes { stores.new.bytes.now ≡ stores.old.bytes.now }
 {
     let scope = stores.run.scope;
     keep(stores, scope);
@@ -113,7 +121,9 @@ pub fn empty(stores: &mut Stores)
 
 // The innermost scope closed; the one before it begins at `scope`.
 pub fn close(stores: &mut Stores, scope: u64)
-    ensures { StoresBecame (closed scope) stores.old stores.new }
+    ensures store { StoresBecame (closed scope) stores.old stores.new }
+    ensures words { stores.new.words.now ≡ stores.old.words.now }
+    ensures bytes { stores.new.bytes.now ≡ stores.old.bytes.now }
 {
     let from = stores.run.scope;
     break_out(stores, scope, from);
@@ -121,7 +131,9 @@ pub fn close(stores: &mut Stores, scope: u64)
 
 // Every scope from binding `from` on dropped, as a break leaves them; the one before begins at `scope`.
 pub fn break_out(stores: &mut Stores, scope: u64, from: u64)
-    ensures { StoresBecame (broken_out scope from) stores.old stores.new }
+    ensures store { StoresBecame (broken_out scope from) stores.old stores.new }
+    ensures words { stores.new.words.now ≡ stores.old.words.now }
+    ensures bytes { stores.new.bytes.now ≡ stores.old.bytes.now }
 {
     keep(stores, from);
     stores.run.scope = scope;
@@ -130,7 +142,8 @@ pub fn break_out(stores: &mut Stores, scope: u64, from: u64)
 // A call's arguments, the pending items from `from` on, bound to consecutive names from `first` on in a scope of their own, below which no name is sought; all
 // or, where there would be more than 256 bindings, none.
 pub fn bind_arguments(stores: &mut Stores, first: u16, from: u64) -> bool
-    ensures { StoresTried result (arguments_bound first from) stores.old stores.new }
+    ensures store { StoresTried result (arguments_bound first from) stores.old stores.new }
+    ensures bytes { stores.new.bytes.now ≡ stores.old.bytes.now }
 {
     let bound = stores.run.bound;
     let count = pending_since(stores, from);
@@ -168,7 +181,9 @@ fn copy_arguments(words: &mut [u64], bound: usize, first: u64, from: usize, coun
 
 // A call ended: its argument scope closed, its arguments no longer pending, and the caller's scope and floor as they were.
 pub fn end_call(stores: &mut Stores, scope: u64, floor: u64, pending: u64)
-    ensures { StoresBecame (call_ended scope floor pending) stores.old stores.new }
+    ensures store { StoresBecame (call_ended scope floor pending) stores.old stores.new }
+    ensures words { stores.new.words.now ≡ stores.old.words.now }
+    ensures bytes { stores.new.bytes.now ≡ stores.old.bytes.now }
 {
     close(stores, scope);
     stores.run.floor = floor;

@@ -15,7 +15,8 @@ const MOST_PENDING: u64 = 512;
 
 // One pending item more; false where there are 512.
 pub fn push(stores: &mut Stores, v: Value) -> bool
-    ensures { StoresTried result (pushed_if_room v) stores.old stores.new }
+    ensures store { StoresTried result (pushed_if_room v) stores.old stores.new }
+    ensures bytes { stores.new.bytes.now ≡ stores.old.bytes.now }
 {
     let count = stores.run.pending;
     if MOST_PENDING <= count {
@@ -44,7 +45,9 @@ pub fn pending_since(stores: &Stores, from: u64) -> u64
 
 // Those past the first `count` given back.
 pub fn drop_pending(stores: &mut Stores, count: u64)
-    ensures { StoresBecame (dropped count) stores.old stores.new }
+    ensures store { StoresBecame (dropped count) stores.old stores.new }
+    ensures words { stores.new.words.now ≡ stores.old.words.now }
+    ensures bytes { stores.new.bytes.now ≡ stores.old.bytes.now }
 {
     if count < stores.run.pending {
         stores.run.pending = count;

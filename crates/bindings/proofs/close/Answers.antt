@@ -5,6 +5,6 @@ use Rattle.stores.specs.Stores.{store_of}
 use Rattle.stores.proofs.Chains.{became_as}
 use Rattle.bindings.proofs.close.Goals as goal
 
-pub returns : goal.returns
+pub returns-clause-store : goal.returns-clause-store
 unfolding store_of
-returns c = became_as _ (closed _) refl c.break_out.ensures
+returns-clause-store c = became_as _ (closed _) refl c.break_out.ensures.store

@@ -5,6 +5,6 @@ use Rattle.stores.specs.Stores.{store_of}
 use Rattle.stores.proofs.Chains.{became_as}
 use Rattle.bindings.proofs.empty.Goals as goal
 
-pub returns : goal.returns
+pub returns-clause-store : goal.returns-clause-store
 unfolding store_of
-returns c = became_as _ emptied refl c.keep.ensures
+returns-clause-store c = became_as _ emptied refl c.keep.ensures.store

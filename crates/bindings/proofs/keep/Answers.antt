@@ -3,8 +3,8 @@ use native.Mathlib.Nat.{le_of_lt}
 use Rattle.stores.proofs.Counted.{bindings_counted, fewer, enough}
 use Rattle.bindings.proofs.keep.Goals as goal
 
-pub returns-then-count-stores : goal.returns-then-count-stores
-returns-then-count-stores c = fewer bindings_counted _ _ (le_of_lt c.if-count-stores.true) _ _ c.args.stores.now.fits
+pub returns-then-count-stores-clause-store : goal.returns-then-count-stores-clause-store
+returns-then-count-stores-clause-store c = fewer bindings_counted _ _ (le_of_lt c.if-count-stores.true) _ _ c.args.stores.now.fits
 
-pub returns-else-count-stores : goal.returns-else-count-stores
-returns-else-count-stores c = enough bindings_counted _ _ c.if-count-stores.false _ _ c.args.stores.now.fits
+pub returns-else-count-stores-clause-store : goal.returns-else-count-stores-clause-store
+returns-else-count-stores-clause-store c = enough bindings_counted _ _ c.if-count-stores.false _ _ c.args.stores.now.fits
