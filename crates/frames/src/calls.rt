@@ -27,7 +27,8 @@ pub fn function_of(image: &Image, n: u16) -> Function
 // "Call: arguments first, then the count (24), then their bindings (10), then the body".
 pub fn enter_call(image: &Image, stores: &mut Stores, n: u16, from: u64) -> ControlFlow<Outcome>
     requires { IsKind 16 image.now.bytes.now image.now.header n }
-    ensures { CallEntered image.now.bytes.now image.now.header n from stores.old stores.new result }
+    ensures store { CallEntered image.now.bytes.now image.now.header n from stores.old stores.new result }
+    ensures bytes { stores.new.bytes.now ≡ stores.old.bytes.now }
 {
     let function = function_of(image, n);
     if pending_since(stores, from) != function.count as u64 {
@@ -41,7 +42,9 @@ pub fn enter_call(image: &Image, stores: &mut Stores, n: u16, from: u64) -> Cont
 
 // After the body, with the caller's scope, floor and pending: "A break that reaches a body .. is 13".
 pub fn leave_call(stores: &mut Stores, scope: u64, floor: u64, from: u64, one: Outcome) -> Outcome
-    ensures { StoresEveryAfter (Frame.call_of scope floor from ∷ []) one stores.old stores.new result }
+    ensures store { StoresEveryAfter (Frame.call_of scope floor from ∷ []) one stores.old stores.new result }
+    ensures words { stores.new.words.now ≡ stores.old.words.now }
+    ensures bytes { stores.new.bytes.now ≡ stores.old.bytes.now }
 {
     match one {
         Outcome::Done(v) => {

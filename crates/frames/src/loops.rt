@@ -34,7 +34,9 @@ fn caught(
     from: u64,
 ) -> Outcome
     requires { IsNode image.now.bytes.now image.now.header n × IsNode image.now.bytes.now image.now.header b }
-    ensures { BreakSeen image.now.bytes.now image.now.header n b v scope from stores.old stores.new result }
+    ensures store { BreakSeen image.now.bytes.now image.now.header n b v scope from stores.old stores.new result }
+    ensures words { stores.new.words.now ≡ stores.old.words.now }
+    ensures bytes { stores.new.bytes.now ≡ stores.old.bytes.now }
 {
     let outer = image.node(n as usize);
     let inner = image.node(b as usize);
@@ -58,7 +60,9 @@ pub fn after_pass(
     one: Outcome,
 ) -> ControlFlow<Outcome>
     requires { IsNode image.now.bytes.now image.now.header n × IsBreak image.now.bytes.now image.now.header one }
-    ensures { PassOver image.now.bytes.now image.now.header n scope from one stores.old stores.new result }
+    ensures store { PassOver image.now.bytes.now image.now.header n scope from one stores.old stores.new result }
+    ensures words { stores.new.words.now ≡ stores.old.words.now }
+    ensures bytes { stores.new.bytes.now ≡ stores.old.bytes.now }
 {
     match one {
         Outcome::Done(_) => ControlFlow::Continue(()),

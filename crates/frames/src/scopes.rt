@@ -9,7 +9,9 @@ use stores::lent::Stores;
 
 // After the last expression of a scope, or the body of an arm; the scope before it begins at `scope`. A break leaves it to the loop that it ends.
 pub fn leave_scope(stores: &mut Stores, scope: u64, one: Outcome) -> Outcome
-    ensures { StoresEveryAfter (Frame.end_of scope ∷ []) one stores.old stores.new result }
+    ensures store { StoresEveryAfter (Frame.end_of scope ∷ []) one stores.old stores.new result }
+    ensures words { stores.new.words.now ≡ stores.old.words.now }
+    ensures bytes { stores.new.bytes.now ≡ stores.old.bytes.now }
 {
     if let Outcome::Done(_) = one {
         close(stores, scope);

@@ -2,17 +2,17 @@
 use Rattle.frames.proofs.CallLaws.{wrong_number, not_bound, body_begun}
 use Rattle.frames.proofs.calls.enter_call.Goals as goal
 
-pub returns-then-pending_since-function : goal.returns-then-pending_since-function
-returns-then-pending_since-function c =
+pub returns-then-pending_since-function-clause-store : goal.returns-then-pending_since-function-clause-store
+returns-then-pending_since-function-clause-store c =
     wrong_number c.requires c.args.stores.now.fits c.args.from _ c.function_of-function.ensures _ c.pending_since.ensures
     c.if-pending_since-function.true
 
-pub returns-then-bind_arguments : goal.returns-then-bind_arguments
-returns-then-bind_arguments c =
+pub returns-then-bind_arguments-clause-store : goal.returns-then-bind_arguments-clause-store
+returns-then-bind_arguments-clause-store c =
     body_begun c.requires c.args.stores.now.fits c.args.from _ c.function_of-function.ensures _ c.pending_since.ensures
-    c.if-pending_since-function.false c.bind_arguments.ensures c.if-bind_arguments.true
+    c.if-pending_since-function.false c.bind_arguments.ensures.store c.if-bind_arguments.true
 
-pub returns : goal.returns
-returns c =
+pub returns-clause-store : goal.returns-clause-store
+returns-clause-store c =
     not_bound c.requires c.args.stores.now.fits c.args.from _ c.function_of-function.ensures _ c.pending_since.ensures
-    c.if-pending_since-function.false c.bind_arguments.ensures c.if-bind_arguments.false
+    c.if-pending_since-function.false c.bind_arguments.ensures.store c.if-bind_arguments.false
