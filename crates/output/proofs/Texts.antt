@@ -16,8 +16,10 @@ use Rattle.rules.specs.Output.{Piece, put, byte_pieces, length_and_bytes, bool_b
 use Rattle.stores.specs.Stores.{store_of, text_of as text_in}
 use Rattle.texts.specs.declared.Sources.{Sources}
 use Rattle.texts.proofs.Parts.{length_part}
-use Rattle.texts.specs.Text.{pool_text, Sourced}
+use Rattle.texts.specs.Text.{bytes_of, pool_text, Sourced}
+use Rattle.std.specs.Prelude.{Result}
 use Rattle.pouring.specs.declared.Spot.{Spot}
+use Rattle.pouring.specs.declared.NoPlace.{NoPlace}
 use Rattle.pouring.specs.Pouring.{Puts}
 use Rattle.output.specs.Writing.{head_pieces}
 
@@ -32,16 +34,16 @@ text_pieces text xs ys n e l =
     ap₂ (λ (k : ℕ) (ps : List Piece). put 16 k ∷ ps) long (sym (pieces_append xs ys) ∙ ap byte_pieces (sym e))
 
 -- where a text stands: a part of the image, and one of what was built
-pub text_puts : (image : List ℕ) (h : Header) (bytes : List ℕ) {made start len p : ℕ} {from : Sources} {writing : Bool} {out out₁ : List ℕ} {r : Spot} → size_of h ≤ length image → made ≤ length bytes
-    → Sourced h made start len from
-    → Puts writing p ((put 16 (from.image_count + from.built_count) ∷ []) ++ (byte_pieces (slice from.image_from (from.image_from + from.image_count) image) ++ byte_pieces (slice from.built_from (from.built_from + from.built_count) bytes))) out out₁ r
+pub text_puts : (image : List ℕ) (h : Header) (bytes : List ℕ) {made start len p : ℕ} {from : Sources} {xs ys : List ℕ} {writing : Bool} {out out₁ : List ℕ} {r : Result Spot NoPlace} → size_of h ≤ length image → made ≤ length bytes
+    → Sourced h made start len from → xs ≡ bytes_of from.image image → ys ≡ bytes_of from.built bytes
+    → Puts writing p ((put 16 (from.image.count + from.built.count) ∷ []) ++ (byte_pieces xs ++ byte_pieces ys)) out out₁ r
     → Puts writing p (length_and_bytes (pool_text image h made bytes start len)) out out₁ r
-text_puts image h bytes {made} {start} {len} {p} {from} {writing} {out} {out₁} {r} whole enough s puts =
-    let first = length_part from.image_from from.image_count image (omega (arith, s.in_image)) in
-    let second = length_part from.built_from from.built_count bytes (omega (arith, s.in_built)) in
+text_puts image h bytes {made} {start} {len} {p} {from} {xs} {ys} {writing} {out} {out₁} {r} whole enough s ex ey puts =
+    let first : length xs ≡ from.image.count = ap length ex ∙ length_part from.image.from from.image.count image (omega (arith, s.in_image)) in
+    let second : length ys ≡ from.built.count = ap length ey ∙ length_part from.built.from from.built.count bytes (omega (arith, s.in_built)) in
+    let is : pool_text image h made bytes start len ≡ xs ++ ys = s.is image bytes whole ∙ sym (ap₂ (λ (l m : List ℕ). l ++ m) ex ey) in
     subst (λ (ps : List Piece). Puts writing p ps out out₁ r)
-    (text_pieces (pool_text image h made bytes start len) (slice from.image_from (from.image_from + from.image_count) image)
-    (slice from.built_from (from.built_from + from.built_count) bytes) (from.image_count + from.built_count) (s.is image bytes whole) (omega (arith, first, second)))
+    (text_pieces (pool_text image h made bytes start len) xs ys (from.image.count + from.built.count) is (omega (arith, first, second)))
     puts
 
 -- the text of a value, and of a key
@@ -54,7 +56,7 @@ unfolding pool_text part_text
 pool_key image h bytes key = ap (slice (start_of key) (start_of key + length_of key)) (append-nil (image_text image h))
 
 -- a key is the text of a literal: no byte of it was built
-pub key_puts : (image : List ℕ) (h : Header) (bytes : List ℕ) {writing : Bool} {p start len : ℕ} (key : ℕ) {out out₁ : List ℕ} {r : Spot} → start ≡ start_of key → len ≡ length_of key
+pub key_puts : (image : List ℕ) (h : Header) (bytes : List ℕ) {writing : Bool} {p start len : ℕ} (key : ℕ) {out out₁ : List ℕ} {r : Result Spot NoPlace} → start ≡ start_of key → len ≡ length_of key
     → Puts writing p (length_and_bytes (pool_text image h 0 bytes start len)) out out₁ r → Puts writing p (length_and_bytes (part_text image h key)) out out₁ r
 key_puts image h bytes {writing} {p} {start} {len} key {out} {out₁} {r} s l puts =
     let same : pool_text image h 0 bytes start len ≡ part_text image h key = ap₂ (pool_text image h 0 bytes) s l ∙ pool_key image h bytes key in
@@ -66,15 +68,15 @@ bool_bit_lem true = refl
 bool_bit_lem false = refl
 
 -- a number told otherwise
-pub number_puts : {writing : Bool} {p kind width x y : ℕ} {out out₁ : List ℕ} {r : Spot} → x ≡ y → Puts writing p (put 4 kind ∷ put width x ∷ []) out out₁ r → Puts writing p (put 4 kind ∷ put width y ∷ []) out out₁ r
+pub number_puts : {writing : Bool} {p kind width x y : ℕ} {out out₁ : List ℕ} {r : Result Spot NoPlace} → x ≡ y → Puts writing p (put 4 kind ∷ put width x ∷ []) out out₁ r → Puts writing p (put 4 kind ∷ put width y ∷ []) out out₁ r
 number_puts {writing} {p} {kind} {width} {x} {y} {out} {out₁} {r} e puts = subst (λ (z : ℕ). Puts writing p (put 4 kind ∷ put width z ∷ []) out out₁ r) e puts
 
 -- the pieces of what a value is known to be
-pub head_puts : (image : List ℕ) (h : Header) (σ : Store) {writing : Bool} {p : ℕ} (v u : Value) {out out₁ : List ℕ} {r : Spot} → v ≡ u → Puts writing p (head_pieces image h σ u) out out₁ r
+pub head_puts : (image : List ℕ) (h : Header) (σ : Store) {writing : Bool} {p : ℕ} (v u : Value) {out out₁ : List ℕ} {r : Result Spot NoPlace} → v ≡ u → Puts writing p (head_pieces image h σ u) out out₁ r
     → Puts writing p (head_pieces image h σ v) out out₁ r
 head_puts image h σ {writing} {p} v u {out} {out₁} {r} e puts = subst (λ (w : Value). Puts writing p (head_pieces image h σ w) out out₁ r) (sym e) puts
 
-module _ (image : List ℕ) (h : Header) (run words bytes : List ℕ) {writing : Bool} {p : ℕ} (v : Value) {start len : ℕ} {out out₁ : List ℕ} {r : Spot} where
+module _ (image : List ℕ) (h : Header) (run words bytes : List ℕ) {writing : Bool} {p : ℕ} (v : Value) {start len : ℕ} {out out₁ : List ℕ} {r : Result Spot NoPlace} where
   pub text_head : v ≡ Text start len → Puts writing p (put 4 6 ∷ length_and_bytes (pool_text image h (text_in run) bytes start len)) out out₁ r → Puts writing p (head_pieces image h (store_of run words bytes) v) out out₁ r
   text_head e puts =
       head_puts image h (store_of run words bytes) v (Text start len) e

@@ -1,32 +1,27 @@
 -- A value is its head and what is within it; what was measured is then written. Assumes nothing.
 use mathlib.Core.Path.{◌≡◌, refl, sym, ap, ◌∙◌, subst}
 use mathlib.Core.Bool.{Bool, true, false}
-use mathlib.Core.List.{List, [], ◌∷◌, ◌++◌, append-nil}
+use mathlib.Core.List.{List, [], ◌++◌, append-nil}
 use Prim.Native.Nat.{ℕ, ◌+◌, ◌-◌, ◌*◌, ◌/◌, ◌≤◌}
 use native.Mathlib.Omega.{arith}
 use native.Mathlib.Nat.{sub-zero}
-use types.Run.{OneOf, miss}
-use denote.Enum.Declared.{tag_of}
+use mathlib.Core.Logic.{◌⊎◌, inl, inr}
 use lib.ListN.{length}
 use Rattle.packed.specs.declared.layout.Header.{Header}
 use Rattle.rules.specs.declared.Value.{Value}
 use Rattle.rules.specs.declared.Value.TheVariants.{Unit as VUnit, Bool as VBool, Char, Unsigned, Signed, Float as VFloat, Text, Bytes, Vec, Tuple, Object}
-use Rattle.rules.specs.contracts.Value.{the_type}
 use Rattle.rules.specs.Store.{Store}
 use Rattle.rules.specs.Output.{Piece, Encoded, bits, nested, full, pieces, encoded, entry_pieces, sorted_entries}
 use Rattle.rules.specs.Runs.{out_of, value_encoded}
 use Rattle.stores.specs.Stores.{store_of}
+use Rattle.std.specs.Prelude.{Result, Ok, Err}
 use Rattle.pouring.specs.declared.Spot.{Spot}
-use Rattle.pouring.specs.declared.Spot.TheVariants.{At, Nested, Full}
-use Rattle.pouring.specs.Pouring.{Poured, Puts}
+use Rattle.pouring.specs.declared.NoPlace.{NoPlace}
+use Rattle.pouring.specs.declared.NoPlace.TheVariants.{Nested, Full}
+use Rattle.pouring.specs.Pouring.{IsPlace, Poured, Puts, bits_before}
 use Rattle.pouring.proofs.Places.{reached, poured_all}
-use Rattle.output.specs.declared.Written.TheVariants.{Length, Nested as WNested, Full as WFull}
-use Rattle.output.specs.Writing.{IsPlace, head_pieces, item_pieces, object_pieces, Encodes, Writes, written_of, Wrote}
-use Rattle.output.proofs.Steps.{Stuck, writes_on, writes_stuck, writes_place, writes_puts, writes_value, encodes_pieces}
-
--- values that hold no others
-abbrev pub Plain : Value → Type 0
-Plain v = OneOf (0 ∷ 1 ∷ 2 ∷ 3 ∷ 4 ∷ 5 ∷ 6 ∷ 7 ∷ []) (tag_of the_type v)
+use Rattle.output.specs.Writing.{head_pieces, item_pieces, object_pieces, Encodes, Writes, written_of, Wrote}
+use Rattle.output.proofs.Steps.{writes_on, writes_stuck, writes_place, writes_puts, writes_value, encodes_pieces}
 
 module _ (image : List ℕ) (h : Header) (σ : Store) where
   -- what is within a value
@@ -57,100 +52,92 @@ module _ (image : List ℕ) (h : Header) (σ : Store) where
   both (Tuple c) = refl
   both (Object c) = refl
 
-  plain : (v : Value) → Plain v → head_pieces image h σ v ≡ pieces image h σ v
+  -- values that hold no others
+  plain : (v : Value) → ((c : ℕ) → v ≡ Vec c → ⊥) → ((c : ℕ) → v ≡ Tuple c → ⊥) → ((c : ℕ) → v ≡ Object c → ⊥) → head_pieces image h σ v ≡ pieces image h σ v
   unfolding pieces
-  plain VUnit keys = refl
-  plain (VBool b) keys = refl
-  plain (Unsigned x) keys = refl
-  plain (Signed z) keys = refl
-  plain (VFloat x) keys = refl
-  plain (Char c) keys = refl
-  plain (Text s l) keys = refl
-  plain (Bytes s l) keys = refl
-  plain (Vec c) keys = absurd (miss (0 ∷ 1 ∷ 2 ∷ 3 ∷ 4 ∷ 5 ∷ 6 ∷ 7 ∷ []) 8 tt keys)
-  plain (Tuple c) keys = absurd (miss (0 ∷ 1 ∷ 2 ∷ 3 ∷ 4 ∷ 5 ∷ 6 ∷ 7 ∷ []) 9 tt keys)
-  plain (Object c) keys = absurd (miss (0 ∷ 1 ∷ 2 ∷ 3 ∷ 4 ∷ 5 ∷ 6 ∷ 7 ∷ []) 10 tt keys)
+  plain VUnit vec tuple object = refl
+  plain (VBool b) vec tuple object = refl
+  plain (Unsigned x) vec tuple object = refl
+  plain (Signed z) vec tuple object = refl
+  plain (VFloat x) vec tuple object = refl
+  plain (Char c) vec tuple object = refl
+  plain (Text s l) vec tuple object = refl
+  plain (Bytes s l) vec tuple object = refl
+  plain (Vec c) vec tuple object = absurd (vec c refl)
+  plain (Tuple c) vec tuple object = absurd (tuple c refl)
+  plain (Object c) vec tuple object = absurd (object c refl)
 
-module _ {image : List ℕ} {h : Header} {run words bytes : List ℕ} (v : Value) {a : ℕ} {writing : Bool} {at more : ℕ} {out out₁ : List ℕ} {r : Spot} (some : 1 ≤ a)
-    (first : Puts writing (8 * at + more) (head_pieces image h (store_of run words bytes) v) out out₁ r) where
-  pub head_stuck : Stuck r → Encodes image h run words bytes v a writing at more out out₁ r
-  head_stuck keys = encodes_pieces some (both image h (store_of run words bytes) v) (writes_stuck (body_pieces image h (store_of run words bytes) v) keys (writes_puts first))
+module _ {image : List ℕ} {h : Header} {run words bytes : List ℕ} (v : Value) {a : ℕ} {writing : Bool} {s : Spot} {out out₁ : List ℕ} (some : 1 ≤ a) where
+  pub head_stuck : {why : NoPlace} → Puts writing (bits_before s) (head_pieces image h (store_of run words bytes) v) out out₁ (Err why) → Encodes image h run words bytes v a writing s out out₁ (Err why)
+  head_stuck first = encodes_pieces some (both image h (store_of run words bytes) v) (writes_stuck (body_pieces image h (store_of run words bytes) v) (writes_puts first))
 
-  pub head_alone : {b t : ℕ} → r ≡ At b t → Plain v → Encodes image h run words bytes v a writing at more out out₁ (At b t)
-  head_alone {b} {t} e keys =
-      encodes_pieces some (plain image h (store_of run words bytes) v keys)
-      (writes_puts (subst (Puts writing (8 * at + more) (head_pieces image h (store_of run words bytes) v) out out₁) e first))
+  module _ {t : Spot} (first : Puts writing (bits_before s) (head_pieces image h (store_of run words bytes) v) out out₁ (Ok t)) where
+    pub head_alone : ((c : ℕ) → v ≡ Vec c → ⊥) → ((c : ℕ) → v ≡ Tuple c → ⊥) → ((c : ℕ) → v ≡ Object c → ⊥) → Encodes image h run words bytes v a writing s out out₁ (Ok t)
+    head_alone vec tuple object = encodes_pieces some (plain image h (store_of run words bytes) v vec tuple object) (writes_puts first)
 
-  -- and with what is within it
-  with_body : {b t : ℕ} {ps : List Piece} {out₂ : List ℕ} {r₂ : Spot} → r ≡ At b t → ps ≡ body_pieces image h (store_of run words bytes) v
-      → Writes image h (store_of run words bytes) (a - 1) writing b t ps out₁ out₂ r₂ → Encodes image h run words bytes v a writing at more out out₂ r₂
-  with_body e q rest =
-      encodes_pieces some (ap (λ (qs : List Piece). head_pieces image h (store_of run words bytes) v ++ qs) q ∙ both image h (store_of run words bytes) v) (writes_on e (writes_puts first) rest)
+    -- and with what is within it
+    with_body : {ps : List Piece} {out₂ : List ℕ} {r : Result Spot NoPlace} → ps ≡ body_pieces image h (store_of run words bytes) v
+        → Writes image h (store_of run words bytes) (a - 1) writing t ps out₁ out₂ r → Encodes image h run words bytes v a writing s out out₂ r
+    with_body q rest =
+        encodes_pieces some (ap (λ (qs : List Piece). head_pieces image h (store_of run words bytes) v ++ qs) q ∙ both image h (store_of run words bytes) v) (writes_on (writes_puts first) rest)
 
-  module _ {b t : ℕ} (e : r ≡ At b t) {c : ℕ} {out₂ : List ℕ} {r₂ : Spot} where
-    pub head_vec : v ≡ Vec c → Writes image h (store_of run words bytes) (a - 1) writing b t (item_pieces image h (store_of run words bytes) c) out₁ out₂ r₂
-        → Encodes image h run words bytes v a writing at more out out₂ r₂
-    unfolding body_pieces
-    head_vec q rest = with_body e (ap (body_pieces image h (store_of run words bytes)) (sym q)) rest
+    module _ {c : ℕ} {out₂ : List ℕ} {r : Result Spot NoPlace} where
+      pub head_items : (v ≡ Vec c) ⊎ (v ≡ Tuple c) → Writes image h (store_of run words bytes) (a - 1) writing t (item_pieces image h (store_of run words bytes) c) out₁ out₂ r
+          → Encodes image h run words bytes v a writing s out out₂ r
+      unfolding body_pieces
+      head_items (inl q) rest = with_body (ap (body_pieces image h (store_of run words bytes)) (sym q)) rest
+      head_items (inr q) rest = with_body (ap (body_pieces image h (store_of run words bytes)) (sym q)) rest
 
-    pub head_tuple : v ≡ Tuple c → Writes image h (store_of run words bytes) (a - 1) writing b t (item_pieces image h (store_of run words bytes) c) out₁ out₂ r₂
-        → Encodes image h run words bytes v a writing at more out out₂ r₂
-    unfolding body_pieces
-    head_tuple q rest = with_body e (ap (body_pieces image h (store_of run words bytes)) (sym q)) rest
-
-    pub head_object : v ≡ Object c → Writes image h (store_of run words bytes) (a - 1) writing b t (object_pieces image h (store_of run words bytes) c) out₁ out₂ r₂
-        → Encodes image h run words bytes v a writing at more out out₂ r₂
-    unfolding body_pieces
-    head_object q rest = with_body e (ap (body_pieces image h (store_of run words bytes)) (sym q)) rest
+      pub head_object : v ≡ Object c → Writes image h (store_of run words bytes) (a - 1) writing t (object_pieces image h (store_of run words bytes) c) out₁ out₂ r → Encodes image h run words bytes v a writing s out out₂ r
+      unfolding body_pieces
+      head_object q rest = with_body (ap (body_pieces image h (store_of run words bytes)) (sym q)) rest
 
 -- ---- measured, and then written
 
--- from the start there is all the room
-whole : (image : List ℕ) (h : Header) (run words bytes : List ℕ) (v : Value) (writing : Bool) (out out₁ : List ℕ) (r : Spot) → Encodes image h run words bytes v 64 writing 0 0 out out₁ r
-    → Poured writing 0 (value_encoded image h out v (store_of run words bytes)) out out₁ r
-whole image h run words bytes v writing out out₁ r x =
-    subst (λ (n : ℕ). Poured writing 0 (encoded image h (store_of run words bytes) 64 n v) out out₁ r) (sub-zero (8 * length out)) x.is
+-- where a value begins
+abbrev pub start : Spot
+start = record { bytes = 0; bits = 0 }
 
-pub whole_at : {image : List ℕ} {h : Header} {run words bytes : List ℕ} {v : Value} {writing : Bool} {b t : ℕ} {out out₁ : List ℕ} {r : Spot} → Encodes image h run words bytes v 64 writing 0 0 out out₁ r → r ≡ At b t
-    → IsPlace b t out₁
-whole_at {image} {h} {run} {words} {bytes} {v} {writing} {b} {t} {out} {out₁} {r} x e =
-    let start : IsPlace 0 0 out = record { small = omega arith; within = omega arith } in
-    writes_place e start (writes_value x)
+pub whole_at : {image : List ℕ} {h : Header} {run words bytes : List ℕ} {v : Value} {writing : Bool} {end : Spot} {out out₁ : List ℕ} → Encodes image h run words bytes v 64 writing start out out₁ (Ok end)
+    → IsPlace end out₁
+whole_at x = writes_place (record { small = omega arith; within = omega arith }) (writes_value x)
 
-of_nested : (image : List ℕ) (h : Header) (out out₁ : List ℕ) (d : Encoded) → Poured false 0 d out out₁ Nested → (WNested ≡ written_of d) × (out₁ ≡ out_of image h out d)
-of_nested image h out out₁ (bits bs) p = let z : ◌≡◌ {A = ℕ} 0 1 = cc p.told in absurd (omega arith)
-of_nested image h out out₁ nested p = (refl, p.kept refl)
-of_nested image h out out₁ full p = let z : ◌≡◌ {A = ℕ} 0 1 = cc p.told in absurd (omega arith)
+of_stuck : (image : List ℕ) (h : Header) (out out₁ : List ℕ) (d : Encoded) (why : NoPlace) → Poured false 0 d out out₁ (Err why) → (Err why ≡ written_of d) × (out₁ ≡ out_of image h out d)
+of_stuck image h out out₁ (bits bs) why p = let z : ◌≡◌ {A = ℕ} 0 1 = cc p.told in absurd (omega arith)
+of_stuck image h out out₁ nested why p = let e : why ≡ Nested = cc p.told in (ap Err e, p.kept refl)
+of_stuck image h out out₁ full why p = let e : why ≡ Full = cc p.told in (ap Err e, p.kept refl)
 
-of_full : (image : List ℕ) (h : Header) (out out₁ : List ℕ) (d : Encoded) → Poured false 0 d out out₁ Full → (WFull ≡ written_of d) × (out₁ ≡ out_of image h out d)
-of_full image h out out₁ (bits bs) p = let z : ◌≡◌ {A = ℕ} 0 1 = cc p.told in absurd (omega arith)
-of_full image h out out₁ nested p = let z : ◌≡◌ {A = ℕ} 0 1 = cc p.told in absurd (omega arith)
-of_full image h out out₁ full p = (refl, p.kept refl)
+-- what was measured has a place
+of_placed : (out out₁ out₂ : List ℕ) (d : Encoded) (end : Spot) (why : NoPlace) → Poured false 0 d out out₁ (Ok end) → Poured true 0 d out out₂ (Err why) → ⊥
+of_placed out out₁ out₂ (bits bs) end why p q = let z : ◌≡◌ {A = ℕ} 0 1 = cc q.told in omega arith
+of_placed out out₁ out₂ nested end why p q = let z : ◌≡◌ {A = ℕ} 0 1 = cc p.told in omega arith
+of_placed out out₁ out₂ full end why p q = let z : ◌≡◌ {A = ℕ} 0 1 = cc p.told in omega arith
 
-of_bits_lem : (image : List ℕ) (h : Header) (out out₁ out₂ : List ℕ) (d : Encoded) (b t n : ℕ) (r₂ : Spot) → Poured false 0 d out out₁ (At b t) → Poured true 0 d out out₂ r₂ → n ≡ (8 * b + t + 7) / 8
-    → (Length n ≡ written_of d) × (out₂ ≡ out_of image h out d)
-of_bits_lem image h out out₁ out₂ (bits bs) b t n r₂ p q e =
-    let here = reached 0 (bits bs) b t p.told in
+of_written : (image : List ℕ) (h : Header) (out out₂ : List ℕ) (d : Encoded) (end : Spot) (n : ℕ) → Poured true 0 d out out₂ (Ok end) → n ≡ (bits_before end + 7) / 8
+    → (Ok n ≡ written_of d) × (out₂ ≡ out_of image h out d)
+of_written image h out out₂ (bits bs) end n q e =
+    let here = reached 0 (bits bs) end q.told in
     let same : here.bs ≡ bs = cc here.is in
-    let long : length bs ≡ 8 * b + t = ap length (sym same) ∙ omega (arith, here.at) in
-    (ap Length (e ∙ ap (λ (k : ℕ). (k + 7) / 8) (sym long)), poured_all q)
-of_bits_lem image h out out₁ out₂ nested b t n r₂ p q e = let z : ◌≡◌ {A = ℕ} 0 1 = cc p.told in absurd (omega arith)
-of_bits_lem image h out out₁ out₂ full b t n r₂ p q e = let z : ◌≡◌ {A = ℕ} 0 1 = cc p.told in absurd (omega arith)
+    let long : length bs ≡ bits_before end = ap length (sym same) ∙ omega (arith, here.at) in
+    (ap Ok (e ∙ ap (λ (k : ℕ). (k + 7) / 8) (sym long)), poured_all q)
+of_written image h out out₂ nested end n q e = let z : ◌≡◌ {A = ℕ} 0 1 = cc q.told in absurd (omega arith)
+of_written image h out out₂ full end n q e = let z : ◌≡◌ {A = ℕ} 0 1 = cc q.told in absurd (omega arith)
 
-module _ {image : List ℕ} {h : Header} {run words bytes : List ℕ} {v : Value} {out out₁ : List ℕ} {r : Spot}
-    (measured : Encodes image h run words bytes v 64 false 0 0 out out₁ r) where
-  told : {s : Spot} → r ≡ s → Poured false 0 (value_encoded image h out v (store_of run words bytes)) out out₁ s
-  told e = subst (Poured false 0 (value_encoded image h out v (store_of run words bytes)) out out₁) e (whole image h run words bytes v false out out₁ r measured)
+module _ {image : List ℕ} {h : Header} {run words bytes : List ℕ} {v : Value} {out : List ℕ} where
+  -- from the start there is all the room
+  whole : {writing : Bool} {out₁ : List ℕ} {r : Result Spot NoPlace} → Encodes image h run words bytes v 64 writing start out out₁ r → Poured writing 0 (value_encoded image h out v (store_of run words bytes)) out out₁ r
+  whole {writing} {out₁} {r} x = subst (λ (n : ℕ). Poured writing 0 (encoded image h (store_of run words bytes) 64 n v) out out₁ r) (sub-zero (8 * length out)) x.is
 
-  pub wrote_nested : r ≡ Nested → Wrote image h (store_of run words bytes) v out out₁ WNested
-  wrote_nested e = let w = of_nested image h out out₁ (value_encoded image h out v (store_of run words bytes)) (told e) in record { told = w.0; left = w.1 }
+  pub wrote_none : {out₁ : List ℕ} {why : NoPlace} → Encodes image h run words bytes v 64 false start out out₁ (Err why) → Wrote image h (store_of run words bytes) v out out₁ (Err why)
+  wrote_none {out₁} {why} measured = let w = of_stuck image h out out₁ (value_encoded image h out v (store_of run words bytes)) why (whole measured) in record { told = w.0; left = w.1 }
 
-  pub wrote_full : r ≡ Full → Wrote image h (store_of run words bytes) v out out₁ WFull
-  wrote_full e = let w = of_full image h out out₁ (value_encoded image h out v (store_of run words bytes)) (told e) in record { told = w.0; left = w.1 }
+  module _ {out₁ : List ℕ} {end : Spot} (measured : Encodes image h run words bytes v 64 false start out out₁ (Ok end)) where
+    again : {out₂ : List ℕ} {r : Result Spot NoPlace} → Encodes image h run words bytes v 64 true start out₁ out₂ r → Encodes image h run words bytes v 64 true start out out₂ r
+    again {out₂} {r} written = subst (λ (o : List ℕ). Encodes image h run words bytes v 64 true start o out₂ r) (measured.is.kept refl) written
 
-  pub wrote_length : {b t n : ℕ} {out₂ : List ℕ} {r₂ : Spot} → r ≡ At b t → Encodes image h run words bytes v 64 true 0 0 out₁ out₂ r₂ → n ≡ (8 * b + t + 7) / 8
-      → Wrote image h (store_of run words bytes) v out out₂ (Length n)
-  wrote_length {b} {t} {n} {out₂} {r₂} e written l =
-      let again = subst (λ (o : List ℕ). Encodes image h run words bytes v 64 true 0 0 o out₂ r₂) (measured.is.kept refl) written in
-      let w = of_bits_lem image h out out₁ out₂ (value_encoded image h out v (store_of run words bytes)) b t n r₂ (told e) (whole image h run words bytes v true out out₂ r₂ again) l in
-      record { told = w.0; left = w.1 }
+    pub wrote_placed : {out₂ : List ℕ} {why : NoPlace} → Encodes image h run words bytes v 64 true start out₁ out₂ (Err why) → ⊥
+    wrote_placed {out₂} {why} written = of_placed out out₁ out₂ (value_encoded image h out v (store_of run words bytes)) end why (whole measured) (whole (again written))
+
+    pub wrote_length : {n : ℕ} {to : Spot} {out₂ : List ℕ} → Encodes image h run words bytes v 64 true start out₁ out₂ (Ok to) → n ≡ (bits_before to + 7) / 8
+        → Wrote image h (store_of run words bytes) v out out₂ (Ok n)
+    wrote_length {n} {to} {out₂} written l = let w = of_written image h out out₂ (value_encoded image h out v (store_of run words bytes)) to n (whole (again written)) l in record { told = w.0; left = w.1 }

@@ -1,5 +1,5 @@
 -- Writing a value (01 'Output'): what the writers ask and promise.
-use Rattle.std.specs.Prelude.{ℕ, suc, ◌+◌, ◌-◌, ◌*◌, ◌≤◌, ◌<◌, ◌≡◌, Bool, List, [], ◌∷◌, length, get_or}
+use Rattle.std.specs.Prelude.{ℕ, suc, ◌-◌, ◌*◌, ◌≤◌, ◌≡◌, Bool, List, [], ◌∷◌, length, get_or, Result, Ok, Err}
 use Rattle.packed.specs.declared.layout.Header.{Header}
 use Rattle.packed.specs.Layout.{size_of}
 use Rattle.numbers.specs.Words.{word_of}
@@ -12,20 +12,15 @@ use Rattle.rules.specs.Runs.{out_of, value_encoded}
 use Rattle.stores.specs.Stores.{store_of, Fits}
 use Rattle.ordered.specs.Ordered.{key_text}
 use Rattle.pouring.specs.declared.Spot.{Spot}
-use Rattle.pouring.specs.Pouring.{Poured, Passed}
-use Rattle.output.specs.declared.Written.{Written}
-use Rattle.output.specs.declared.Written.TheVariants.{Length, Nested, Full}
+use Rattle.pouring.specs.declared.NoPlace.{NoPlace}
+use Rattle.pouring.specs.declared.NoPlace.TheVariants.{Nested, Full}
+use Rattle.pouring.specs.Pouring.{Poured, Passed, bits_before}
 
 -- an image as long as its header says, and stores that fit
 pub record Sound (image : List ℕ) (h : Header) (run words bytes : List ℕ) : Type 0 where
   pub whole : size_of h ≤ length image
   pub fits : Fits run words
   pub room : length bytes ≡ 16384
-
--- a place in the output: whole bytes, and bits of the next
-pub record IsPlace (at more : ℕ) (out : List ℕ) : Type 0 where
-  pub small : more < 8
-  pub within : 8 * at + more ≤ 8 * length out
 
 module _ (image : List ℕ) (h : Header) (σ : Store) where
   -- what stands before the values within a value, and those: together its pieces
@@ -56,19 +51,19 @@ module _ (image : List ℕ) (h : Header) (σ : Store) where
   object_pieces c = entry_pieces image h σ (sorted_entries image h σ c σ.cells)
 
 -- the encoding of a value, behind so many bits
-pub record Encodes (image : List ℕ) (h : Header) (run words bytes : List ℕ) (v : Value) (allowance : ℕ) (writing : Bool) (at more : ℕ) (out out' : List ℕ) (r : Spot) : Type 0 where
-  pub is : Poured writing (8 * at + more) (encoded image h (store_of run words bytes) allowance (8 * length out - (8 * at + more)) v) out out' r
+pub record Encodes (image : List ℕ) (h : Header) (run words bytes : List ℕ) (v : Value) (allowance : ℕ) (writing : Bool) (s : Spot) (out out' : List ℕ) (r : Result Spot NoPlace) : Type 0 where
+  pub is : Poured writing (bits_before s) (encoded image h (store_of run words bytes) allowance (8 * length out - bits_before s) v) out out' r
 
 -- pieces in which so many values may stand in one another, behind so many bits
-pub record Writes (image : List ℕ) (h : Header) (σ : Store) (allowance : ℕ) (writing : Bool) (at more : ℕ) (ps : List Piece) (out out' : List ℕ) (r : Spot) : Type 0 where
-  pub is : Passed image h σ (encoded image h σ allowance) writing (8 * at + more) ps out out' r
+pub record Writes (image : List ℕ) (h : Header) (σ : Store) (allowance : ℕ) (writing : Bool) (s : Spot) (ps : List Piece) (out out' : List ℕ) (r : Result Spot NoPlace) : Type 0 where
+  pub is : Passed image h σ (encoded image h σ allowance) writing (bits_before s) ps out out' r
 
--- what was written of an encoding
-abbrev pub written_of : Encoded → Written
-written_of (bits bs) = Length (bytes_for bs)
-written_of nested = Nested
-written_of full = Full
+-- what was written of an encoding: so many bytes, or nothing and why
+abbrev pub written_of : Encoded → Result ℕ NoPlace
+written_of (bits bs) = Ok (bytes_for bs)
+written_of nested = Err Nested
+written_of full = Err Full
 
-pub record Wrote (image : List ℕ) (h : Header) (σ : Store) (v : Value) (out out' : List ℕ) (r : Written) : Type 0 where
+pub record Wrote (image : List ℕ) (h : Header) (σ : Store) (v : Value) (out out' : List ℕ) (r : Result ℕ NoPlace) : Type 0 where
   pub told : r ≡ written_of (value_encoded image h out v σ)
   pub left : out' ≡ out_of image h out (value_encoded image h out v σ)

@@ -7,46 +7,33 @@ ghost use Rattle.boxes.specs.Cells.{CellAt};
 ghost use Rattle.rules.specs.Output.{length_and_bytes, put as piece};
 ghost use Rattle.texts.specs.Text.{pool_text};
 ghost use Rattle.stores.specs.Stores.{Fits, store_of};
-ghost use Rattle.pouring.specs.Pouring.{Puts};
-ghost use Rattle.output.specs.Writing.{IsPlace, Sound, head_pieces, item_pieces, entry_piece, object_pieces, Encodes, Writes, Wrote};
+ghost use Rattle.pouring.specs.Pouring.{IsPlace, Puts, bits_before};
+ghost use Rattle.output.specs.Writing.{Sound, head_pieces, item_pieces, entry_piece, object_pieces, Encodes, Writes, Wrote};
 
 use boxes::{cell_at, count_in};
 use numbers::word::{float_to_word, int_to_word};
 use ordered::{count_entries, key_at, next_entry};
 use packed::layout::Header;
-use pouring::{Spot, put, put_bytes};
+use pouring::{NoPlace, Spot, put, put_bytes};
 use rules::Value;
 use slots::{length_of, start_of};
-use stores::Found;
 use stores::run::TEXT;
 use texts::sources_of;
-
-// What was written: so many bytes, or nothing and why.
-#[derive(Clone, Copy)]
-pub enum Written {
-    Length(usize),
-    Nested,
-    Full,
-}
 
 // A kind, and a number of some width.
 fn write_number(
     out: &mut [u8],
     writing: bool,
-    at: usize,
-    bits: u32,
+    spot: Spot,
     kind: u64,
     width: u32,
     x: u64,
-) -> Spot
-    requires { IsPlace at bits out.old × (width ≤ 64) }
-    ensures { Puts writing (8 * at + bits) (piece 4 kind ∷ piece width x ∷ []) out.old out.new result }
+) -> Result<Spot, NoPlace>
+    requires { IsPlace spot out.old × (width ≤ 64) }
+    ensures { Puts writing (bits_before spot) (piece 4 kind ∷ piece width x ∷ []) out.old out.new result }
 {
-    let spot = put(out, writing, at, bits, 4, kind);
-    let Spot::At(at, bits) = spot else {
-        return spot;
-    };
-    put(out, writing, at, bits, width, x)
+    let spot = put(out, writing, spot, 4, kind)?;
+    put(out, writing, spot, width, x)
 }
 
 // A 16-bit length and the bytes of a text, the first `made` bytes having been built.
@@ -59,39 +46,16 @@ fn write_text(
     len: u16,
     out: &mut [u8],
     writing: bool,
-    at: usize,
-    bits: u32,
-) -> Spot
-    requires { (size_of h ≤ length image.now) × (made ≤ length bytes.now) × IsPlace at bits out.old }
-    ensures { Puts writing (8 * at + bits) (length_and_bytes (pool_text image.now h made bytes.now start len)) out.old out.new result }
+    spot: Spot,
+) -> Result<Spot, NoPlace>
+    requires { (size_of h ≤ length image.now) × (made ≤ length bytes.now) × IsPlace spot out.old }
+    ensures { Puts writing (bits_before spot) (length_and_bytes (pool_text image.now h made bytes.now start len)) out.old out.new result }
 {
     let from = sources_of(h, made, start, len);
-    let length = from.image_count + from.built_count;
-    let spot = put(out, writing, at, bits, 16, length as u64);
-    let Spot::At(at, bits) = spot else {
-        return spot;
-    };
-    let spot = put_bytes(
-        image,
-        from.image_from,
-        from.image_count,
-        out,
-        writing,
-        at,
-        bits,
-    );
-    let Spot::At(at, bits) = spot else {
-        return spot;
-    };
-    put_bytes(
-        bytes,
-        from.built_from,
-        from.built_count,
-        out,
-        writing,
-        at,
-        bits,
-    )
+    let count = from.image.count + from.built.count;
+    let spot = put(out, writing, spot, 16, count as u64)?;
+    let spot = put_bytes(from.image.of(image), out, writing, spot)?;
+    put_bytes(from.built.of(bytes), out, writing, spot)
 }
 
 // Text or bytes with their kind.
@@ -105,17 +69,13 @@ fn write_string(
     len: u16,
     out: &mut [u8],
     writing: bool,
-    at: usize,
-    bits: u32,
-) -> Spot
-    requires { (size_of h ≤ length image.now) × (made ≤ length bytes.now) × IsPlace at bits out.old }
-    ensures { Puts writing (8 * at + bits) (piece 4 kind ∷ length_and_bytes (pool_text image.now h made bytes.now start len)) out.old out.new result }
+    spot: Spot,
+) -> Result<Spot, NoPlace>
+    requires { (size_of h ≤ length image.now) × (made ≤ length bytes.now) × IsPlace spot out.old }
+    ensures { Puts writing (bits_before spot) (piece 4 kind ∷ length_and_bytes (pool_text image.now h made bytes.now start len)) out.old out.new result }
 {
-    let spot = put(out, writing, at, bits, 4, kind);
-    let Spot::At(at, bits) = spot else {
-        return spot;
-    };
-    write_text(image, h, bytes, made, start, len, out, writing, at, bits)
+    let spot = put(out, writing, spot, 4, kind)?;
+    write_text(image, h, bytes, made, start, len, out, writing, spot)
 }
 
 // What stands before the values within a value: all of it where it holds none.
@@ -128,49 +88,30 @@ fn write_head(
     v: Value,
     out: &mut [u8],
     writing: bool,
-    at: usize,
-    bits: u32,
-) -> Spot
-    requires { Sound image.now h run.now words.now bytes.now × IsPlace at bits out.old }
-    ensures { Puts writing (8 * at + bits) (head_pieces image.now h (store_of run.now words.now bytes.now) v) out.old out.new result }
+    spot: Spot,
+) -> Result<Spot, NoPlace>
+    requires { Sound image.now h run.now words.now bytes.now × IsPlace spot out.old }
+    ensures { Puts writing (bits_before spot) (head_pieces image.now h (store_of run.now words.now bytes.now) v) out.old out.new result }
 {
     let made = run[TEXT] as usize;
     match v {
-        Value::Unit => put(out, writing, at, bits, 4, 0),
-        Value::Bool(b) => write_number(out, writing, at, bits, 1, 1, b as u64),
-        Value::Unsigned(x) => write_number(out, writing, at, bits, 2, 64, x),
-        Value::Signed(x) => write_number(out, writing, at, bits, 3, 64, int_to_word(x)),
-        Value::Float(x) => write_number(out, writing, at, bits, 4, 64, float_to_word(x)),
-        Value::Char(c) => write_number(out, writing, at, bits, 5, 21, c as u64),
-        Value::Text(s, l) => write_string(image, h, bytes, made, 6, s, l, out, writing, at, bits),
-        Value::Bytes(s, l) => write_string(image, h, bytes, made, 7, s, l, out, writing, at, bits),
-        Value::Vec(c) => write_number(
-            out,
-            writing,
-            at,
-            bits,
-            8,
-            12,
-            count_in(words, run, c as usize),
-        ),
-        Value::Tuple(c) => write_number(
-            out,
-            writing,
-            at,
-            bits,
-            9,
-            12,
-            count_in(words, run, c as usize),
-        ),
-        Value::Object(c) => write_number(
-            out,
-            writing,
-            at,
-            bits,
-            10,
-            12,
-            count_entries(words, run, c),
-        ),
+        Value::Unit => put(out, writing, spot, 4, 0),
+        Value::Bool(b) => write_number(out, writing, spot, 1, 1, u64::from(b)),
+        Value::Unsigned(x) => write_number(out, writing, spot, 2, 64, x),
+        Value::Signed(x) => write_number(out, writing, spot, 3, 64, int_to_word(x)),
+        Value::Float(x) => write_number(out, writing, spot, 4, 64, float_to_word(x)),
+        Value::Char(c) => write_number(out, writing, spot, 5, 21, c as u64),
+        Value::Text(s, l) => write_string(image, h, bytes, made, 6, s, l, out, writing, spot),
+        Value::Bytes(s, l) => write_string(image, h, bytes, made, 7, s, l, out, writing, spot),
+        Value::Vec(c) => {
+            write_number(out, writing, spot, 8, 12, count_in(words, run, c as usize))
+        }
+        Value::Tuple(c) => {
+            write_number(out, writing, spot, 9, 12, count_in(words, run, c as usize))
+        }
+        Value::Object(c) => {
+            write_number(out, writing, spot, 10, 12, count_entries(words, run, c))
+        }
     }
 }
 
@@ -197,31 +138,24 @@ fn write_any(
     allowance: u32,
     out: &mut [u8],
     writing: bool,
-    at: usize,
-    bits: u32,
-) -> Spot
-    requires { Sound image.now h run.now words.now bytes.now × IsPlace at bits out.old }
-    ensures { Encodes image.now h run.now words.now bytes.now v allowance writing at bits out.old out.new result }
+    spot: Spot,
+) -> Result<Spot, NoPlace>
+    requires { Sound image.now h run.now words.now bytes.now × IsPlace spot out.old }
+    ensures { Encodes image.now h run.now words.now bytes.now v allowance writing spot out.old out.new result }
 {
     if allowance == 0 {
-        return Spot::Nested;
+        return Err(NoPlace::Nested);
     }
-    let spot = write_head(image, h, words, bytes, run, v, out, writing, at, bits);
-    let Spot::At(at, bits) = spot else {
-        return spot;
-    };
+    let spot = write_head(image, h, words, bytes, run, v, out, writing, spot)?;
     let within = allowance - 1;
     match v {
-        Value::Vec(c) => write_items(
-            image, h, words, bytes, run, c, within, out, writing, at, bits,
-        ),
-        Value::Tuple(c) => write_items(
-            image, h, words, bytes, run, c, within, out, writing, at, bits,
-        ),
-        Value::Object(c) => write_entries(
-            image, h, words, bytes, run, c, within, out, writing, at, bits,
-        ),
-        _ => Spot::At(at, bits),
+        Value::Vec(c) | Value::Tuple(c) => {
+            write_items(image, h, words, bytes, run, c, within, out, writing, spot)
+        }
+        Value::Object(c) => {
+            write_entries(image, h, words, bytes, run, c, within, out, writing, spot)
+        }
+        _ => Ok(spot),
     }
 }
 
@@ -237,30 +171,19 @@ fn write_items(
     allowance: u32,
     out: &mut [u8],
     writing: bool,
-    at: usize,
-    bits: u32,
-) -> Spot
-    requires { Sound image.now h run.now words.now bytes.now × IsPlace at bits out.old }
-    ensures { Writes image.now h (store_of run.now words.now bytes.now) allowance writing at bits (item_pieces image.now h (store_of run.now words.now bytes.now) owner) out.old out.new result }
+    spot: Spot,
+) -> Result<Spot, NoPlace>
+    requires { Sound image.now h run.now words.now bytes.now × IsPlace spot out.old }
+    ensures { Writes image.now h (store_of run.now words.now bytes.now) allowance writing spot (item_pieces image.now h (store_of run.now words.now bytes.now) owner) out.old out.new result }
 {
     let first = owner as usize + 1;
     let count = count_in(words, run, owner as usize);
-    let mut at = at;
-    let mut bits = bits;
-    let mut i = 0;
-    while i < count {
+    let mut end = spot;
+    for i in 0..count {
         let v = item_value(words, run, first, i);
-        let spot = write_any(
-            image, h, words, bytes, run, v, allowance, out, writing, at, bits,
-        );
-        let Spot::At(next, more) = spot else {
-            return spot;
-        };
-        at = next;
-        bits = more;
-        i = i + 1;
+        end = write_any(image, h, words, bytes, run, v, allowance, out, writing, end)?;
     }
-    Spot::At(at, bits)
+    Ok(end)
 }
 
 // An entry of an object: its key, and its value.
@@ -275,11 +198,10 @@ fn write_entry(
     allowance: u32,
     out: &mut [u8],
     writing: bool,
-    at: usize,
-    bits: u32,
-) -> Spot
-    requires { Sound image.now h run.now words.now bytes.now × IsPlace at bits out.old }
-    ensures { Writes image.now h (store_of run.now words.now bytes.now) allowance writing at bits (entry_piece image.now h (store_of run.now words.now bytes.now) i) out.old out.new result }
+    spot: Spot,
+) -> Result<Spot, NoPlace>
+    requires { Sound image.now h run.now words.now bytes.now × IsPlace spot out.old }
+    ensures { Writes image.now h (store_of run.now words.now bytes.now) allowance writing spot (entry_piece image.now h (store_of run.now words.now bytes.now) i) out.old out.new result }
 {
     let key = key_at(words, run, i);
     let spot = write_text(
@@ -291,15 +213,11 @@ fn write_entry(
         length_of(key),
         out,
         writing,
-        at,
-        bits,
-    );
-    let Spot::At(at, bits) = spot else {
-        return spot;
-    };
+        spot,
+    )?;
     let v = cell_at(words, run, i);
     write_any(
-        image, h, words, bytes, run, v, allowance, out, writing, at, bits,
+        image, h, words, bytes, run, v, allowance, out, writing, spot,
     )
 }
 
@@ -315,48 +233,36 @@ fn write_entries(
     allowance: u32,
     out: &mut [u8],
     writing: bool,
-    at: usize,
-    bits: u32,
-) -> Spot
-    requires { Sound image.now h run.now words.now bytes.now × IsPlace at bits out.old }
-    ensures { Writes image.now h (store_of run.now words.now bytes.now) allowance writing at bits (object_pieces image.now h (store_of run.now words.now bytes.now) owner) out.old out.new result }
+    spot: Spot,
+) -> Result<Spot, NoPlace>
+    requires { Sound image.now h run.now words.now bytes.now × IsPlace spot out.old }
+    ensures { Writes image.now h (store_of run.now words.now bytes.now) allowance writing spot (object_pieces image.now h (store_of run.now words.now bytes.now) owner) out.old out.new result }
 {
     let count = count_entries(words, run, owner);
-    let mut last = Found::Nothing;
-    let mut at = at;
-    let mut bits = bits;
-    let mut k = 0;
-    while k < count {
-        let next = next_entry(image, h, words, run, owner, last);
-        let Found::At(i) = next else {
-            return Spot::At(at, bits);
+    let mut last = None;
+    let mut end = spot;
+    for _k in 0..count {
+        let Some(i) = next_entry(image, h, words, run, owner, last) else {
+            return Ok(end);
         };
-        let spot = write_entry(
-            image, h, words, bytes, run, i, allowance, out, writing, at, bits,
-        );
-        let Spot::At(to, more) = spot else {
-            return spot;
-        };
-        at = to;
-        bits = more;
-        last = next;
-        k = k + 1;
+        end = write_entry(image, h, words, bytes, run, i, allowance, out, writing, end)?;
+        last = Some(i);
     }
-    Spot::At(at, bits)
+    Ok(end)
 }
 
 // "Zero bits fill the last byte": the bytes that a place needs.
-fn length_at(whole: usize, more: u32) -> usize
-    requires { (more < 8) × ((8 * whole + more + 7) / 8 < 2 ^ 64) }
-    ensures { result ≡ (8 * whole + more + 7) / 8 }
+fn length_at(spot: Spot) -> usize
+    requires { (spot.bits < 8) × ((bits_before spot + 7) / 8 < 2 ^ 64) }
+    ensures { result ≡ (bits_before spot + 7) / 8 }
 {
-    if more == 0 {
-        return whole;
+    if spot.bits == 0 {
+        return spot.bytes;
     }
-    whole + 1
+    spot.bytes + 1
 }
 
-// Writes a value, or tells why it has no place there. Where it has none, the output stays as it is.
+// Writes a value, and tells how many bytes it takes, or why it has no place there. Where it has none, the output stays as it is.
 pub fn write_value(
     image: &[u8],
     h: Header,
@@ -365,17 +271,12 @@ pub fn write_value(
     run: &[u64; 16],
     v: Value,
     out: &mut [u8],
-) -> Written
+) -> Result<usize, NoPlace>
     requires { Sound image.now h run.now words.now bytes.now }
     ensures { Wrote image.now h (store_of run.now words.now bytes.now) v out.old out.new result }
 {
-    let measured = write_any(image, h, words, bytes, run, v, 64, out, false, 0, 0);
-    match measured {
-        Spot::At(whole, more) => {
-            write_any(image, h, words, bytes, run, v, 64, out, true, 0, 0);
-            Written::Length(length_at(whole, more))
-        }
-        Spot::Nested => Written::Nested,
-        Spot::Full => Written::Full,
-    }
+    let start = Spot { bytes: 0, bits: 0 };
+    write_any(image, h, words, bytes, run, v, 64, out, false, start)?;
+    let end = write_any(image, h, words, bytes, run, v, 64, out, true, start)?;
+    Ok(length_at(end))
 }

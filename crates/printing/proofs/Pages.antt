@@ -5,7 +5,7 @@ use Prim.Native.Nat.{ℕ, ◌+◌, ◌≤◌, ◌<◌}
 use native.Mathlib.Numerals.{add-one}
 use borrow.Author.Tests.{lt-ltb, le-ltb}
 use lib.ListN.{length, take, get_or, set}
-use lib.Seq.{take-suc, take_all}
+use lib.Seq.{take-suc}
 use Rattle.printing.specs.Page.{Page, page, with_byte, with_bytes, hex_of}
 use Rattle.io.specs.Digits.{last_digits}
 
@@ -27,19 +27,11 @@ unfolding hex_of
 hex_in_two [] t = refl
 hex_in_two (b ∷ s) t = ap (λ (l : List ℕ). last_digits 16 2 b ++ l) (hex_in_two s t) ∙ sym (append_assoc (last_digits 16 2 b) (hex_of s) (hex_of t))
 
--- what is written of a text byte by byte, by any rule f: nothing at first, one byte more, and at last all
-module _ (f : List ℕ → List ℕ) (text : List ℕ) where
-  pub none_yet : f [] ≡ [] → (p : Page) → p ≡ with_bytes p (f (take 0 text))
-  unfolding with_bytes
-  none_yet h p = ap (with_bytes p) (sym h)
-
-  pub one_more : ((s t : List ℕ) → f (s ++ t) ≡ f s ++ f t) → (p q r : Page) (i : ℕ) → i < length text → q ≡ with_bytes p (f (take i text)) → r ≡ with_bytes q (f (get_or text i 0 ∷ [])) → r ≡ with_bytes p (f (take (i + 1) text))
-  one_more f-two p q r i h e g =
-      g
-      ∙ ap (λ (x : Page). with_bytes x (f (get_or text i 0 ∷ []))) e
-      ∙ sym (in_two p (f (take i text)) (f (get_or text i 0 ∷ [])))
-      ∙ ap (with_bytes p) (sym (f-two (take i text) (get_or text i 0 ∷ [])))
-      ∙ ap (λ (l : List ℕ). with_bytes p (f l)) (sym (take-suc text i 0 h) ∙ ap (λ (n : ℕ). take n text) (sym (add-one i)))
-
-  pub all_of_it : (p q : Page) (i : ℕ) → length text ≤ i → q ≡ with_bytes p (f (take i text)) → q ≡ with_bytes p (f text)
-  all_of_it p q i h e = e ∙ ap (λ (l : List ℕ). with_bytes p (f l)) (take_all i text h)
+-- one byte more of a text that is written byte by byte, by any rule f
+pub one_more : (f : List ℕ → List ℕ) (text : List ℕ) → ((s t : List ℕ) → f (s ++ t) ≡ f s ++ f t) → (p q r : Page) (i : ℕ) → i < length text → q ≡ with_bytes p (f (take i text)) → r ≡ with_bytes q (f (get_or text i 0 ∷ [])) → r ≡ with_bytes p (f (take (i + 1) text))
+one_more f text f-two p q r i h e g =
+    g
+    ∙ ap (λ (x : Page). with_bytes x (f (get_or text i 0 ∷ []))) e
+    ∙ sym (in_two p (f (take i text)) (f (get_or text i 0 ∷ [])))
+    ∙ ap (with_bytes p) (sym (f-two (take i text) (get_or text i 0 ∷ [])))
+    ∙ ap (λ (l : List ℕ). with_bytes p (f l)) (sym (take-suc text i 0 h) ∙ ap (λ (n : ℕ). take n text) (sym (add-one i)))

@@ -107,6 +107,7 @@ impl<'a> Page<'a> {
     }
 
     // A byte as it stands between these quotes: with a backslash, as it is, or by its number.
+    #[tactic(auto, using(crate::proofs::Escapes::by_letter, crate::proofs::Escapes::by_itself, crate::proofs::Escapes::by_number))]
     pub fn escaped(&mut self, b: u8, quote: u8)
         ensures same_reference { self.new.all.ghost_name ≡ self.old.all.ghost_name }
         ensures value { shown self.new ≡ with_bytes (shown self.old) (escape_of quote b) }

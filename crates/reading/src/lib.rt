@@ -13,6 +13,7 @@ pub fn read_full(file: &mut impl Read, bytes: &mut [u8]) -> usize
     ensures { result ≤ length bytes.new }
 {
     let mut done = 0;
+    // A read gives any number of bytes, so that nothing counts the rounds.
     while done < bytes.len() {
         let Ok(n) = file.read(&mut bytes[done..]) else {
             return done;

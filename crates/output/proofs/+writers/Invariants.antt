@@ -1,5 +1,5 @@
 -- A call's measure is three times the nesting that is allowed, and a rank below three.
-use Rattle.std.proofs.Common.{◌+◌, ◌-◌, ◌*◌, ◌≤◌}
+use Rattle.std.proofs.Common.{◌+◌, ◌*◌}
 use Rattle.output.proofs.Items.{ItemsDone}
 use Rattle.output.proofs.Entries.{EntriesDone}
 use Rattle.output.proofs.+writers.Given as goal
@@ -17,17 +17,7 @@ abbrev pub decreases-write_items : goal.decreases-write_items
 decreases-write_items l = 3 * l.allowance + 2
 
 abbrev pub invariant-write_entries-loop-k : goal.invariant-write_entries-loop-k
-invariant-write_entries-loop-k l =
-    (l.k ≤ l.count)
-    × EntriesDone l.image l.h l.run l.words l.bytes l.owner l.allowance l.writing l.fn.at l.fn.bits l.fn.out l.k l.at l.bits l.out l.last
-
-abbrev pub decreases-write_entries-loop-k : goal.decreases-write_entries-loop-k
-decreases-write_entries-loop-k l = l.count - l.k
+invariant-write_entries-loop-k l = EntriesDone l.image l.h l.run l.words l.bytes l.owner l.allowance l.writing l.fn.spot l.fn.out l._k l.end l.out l.last
 
 abbrev pub invariant-write_items-loop-i : goal.invariant-write_items-loop-i
-invariant-write_items-loop-i l =
-    (l.i ≤ l.count)
-    × ItemsDone l.image l.h l.run l.words l.bytes (l.owner + 1) l.allowance l.writing l.fn.at l.fn.bits l.fn.out l.i l.at l.bits l.out
-
-abbrev pub decreases-write_items-loop-i : goal.decreases-write_items-loop-i
-decreases-write_items-loop-i l = l.count - l.i
+invariant-write_items-loop-i l = ItemsDone l.image l.h l.run l.words l.bytes (l.owner + 1) l.allowance l.writing l.fn.spot l.fn.out l.i l.end l.out
