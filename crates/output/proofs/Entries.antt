@@ -22,17 +22,18 @@ use Rattle.pouring.specs.declared.NoPlace.{NoPlace}
 use Rattle.pouring.specs.Pouring.{IsPlace, Puts, bits_before}
 use Rattle.output.specs.Writing.{Encodes, Writes, entry_of, entry_piece, object_pieces}
 use Rattle.output.proofs.Steps.{writes_none, writes_on, writes_stuck, writes_place, writes_long, writes_puts, writes_value}
+use Rattle.stores.specs.declared.run.Run.{Run}
 
 -- ---- an entry is its key and its value
 
-module _ (image : List ℕ) {h : Header} {run words : List ℕ} (bytes : List ℕ) {i n : ℕ} {writing : Bool} {s : Spot} {out out₁ : List ℕ} {key : ℕ} {r : Result Spot NoPlace} (keyed : KeyAt key run words i)
+module _ (image : List ℕ) {h : Header} {run : Run} {words : List ℕ} (bytes : List ℕ) {i n : ℕ} {writing : Bool} {s : Spot} {out out₁ : List ℕ} {key : ℕ} {r : Result Spot NoPlace} (keyed : KeyAt key run words i)
     (first : Puts writing (bits_before s) (length_and_bytes (part_text image h key)) out out₁ r) where
   keyed_first : Writes image h (store_of run words bytes) n writing s (length_and_bytes (key_text image h (store_of run words bytes).cells i)) out out₁ r
   unfolding key_text
   keyed_first =
       subst (λ (k : ℕ). Writes image h (store_of run words bytes) n writing s (length_and_bytes (part_text image h k)) out out₁ r) (keyed.is bytes) (writes_puts first)
 
-module _ (image : List ℕ) {h : Header} {run words : List ℕ} (bytes : List ℕ) {i n : ℕ} {writing : Bool} {s : Spot} {out out₁ : List ℕ} {key : ℕ} (keyed : KeyAt key run words i) where
+module _ (image : List ℕ) {h : Header} {run : Run} {words : List ℕ} (bytes : List ℕ) {i n : ℕ} {writing : Bool} {s : Spot} {out out₁ : List ℕ} {key : ℕ} (keyed : KeyAt key run words i) where
   pub entry_stuck : {why : NoPlace} → Puts writing (bits_before s) (length_and_bytes (part_text image h key)) out out₁ (Err why)
       → Writes image h (store_of run words bytes) n writing s (entry_piece image h (store_of run words bytes) i) out out₁ (Err why)
   entry_stuck first = writes_stuck _ (keyed_first image bytes keyed first)
@@ -50,7 +51,7 @@ pub data Lasts : List ℕ → Option ℕ → Type 0 where
   nothing : Lasts [] None
   after : (before : List ℕ) {i : ℕ} → Lasts (before ++ (i ∷ [])) (Some i)
 
-pub record EntriesDone (image : List ℕ) (h : Header) (run words bytes : List ℕ) (owner allowance : ℕ) (writing : Bool) (start : Spot) (out₀ : List ℕ) (k : ℕ) (end : Spot) (out : List ℕ) (last : Option ℕ) : Type 0 where
+pub record EntriesDone (image : List ℕ) (h : Header) (run : Run) (words bytes : List ℕ) (owner allowance : ℕ) (writing : Bool) (start : Spot) (out₀ : List ℕ) (k : ℕ) (end : Spot) (out : List ℕ) (last : Option ℕ) : Type 0 where
   pub front : List ℕ
   pub rest : List ℕ
   pub sorted : sorted_cells image h owner (store_of run words bytes).cells ≡ front ++ rest
@@ -75,7 +76,7 @@ map_length : {A B : Type 0} (f : A → B) (xs : List A) → length (map f xs) �
 map_length f [] = refl
 map_length f (x ∷ xs) = ap suc (map_length f xs)
 
-module _ (image : List ℕ) (h : Header) (run words bytes : List ℕ) (owner : ℕ) where
+module _ (image : List ℕ) (h : Header) (run : Run) (words bytes : List ℕ) (owner : ℕ) where
   abbrev τ : Store
   τ = store_of run words bytes
 
@@ -105,7 +106,7 @@ module _ (image : List ℕ) (h : Header) (run words bytes : List ℕ) (owner : �
   count_both front rest count e c =
       c.is image h bytes ∙ ap length (sorted_entries_lem image h τ τ.cells owner) ∙ map_length (entry_of image h τ) (sorted_cells image h owner τ.cells) ∙ ap length e ∙ length-append front rest
 
-module _ {image : List ℕ} {h : Header} {run words bytes : List ℕ} {owner n : ℕ} {writing : Bool} where
+module _ {image : List ℕ} {h : Header} {run : Run} {words bytes : List ℕ} {owner n : ℕ} {writing : Bool} where
   pub entries_start : {start : Spot} {out : List ℕ} → IsPlace start out → EntriesDone image h run words bytes owner n writing start out 0 start out None
   entries_start here = record { front = []; rest = _; sorted = refl; count = refl; lasts = nothing; place = here; long = refl; passed = writes_none here }
 

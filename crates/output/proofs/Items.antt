@@ -21,6 +21,7 @@ use Rattle.pouring.specs.declared.NoPlace.{NoPlace}
 use Rattle.pouring.specs.Pouring.{IsPlace}
 use Rattle.output.specs.Writing.{Encodes, Writes, item_pieces}
 use Rattle.output.proofs.Steps.{writes_none, writes_on, writes_stuck, writes_place, writes_value}
+use Rattle.stores.specs.declared.run.Run.{Run}
 
 -- the items from `at` on, so many, and then more
 items_split : (image : List ℕ) (h : Header) (σ : Store) (i m at : ℕ) → items_from image h σ at (i + m) ≡ items_from image h σ at i ++ items_from image h σ (at + i) m
@@ -31,18 +32,18 @@ items_split image h σ (suc i) m at = rw suc-add (ap (λ (ps : List Piece). with
     next a b = omega arith
 
 -- past the last cell there is unit
-pub past_cells : {run words : List ℕ} (i : ℕ) → Fits run words → 1024 ≤ i → CellAt VUnit run words i
+pub past_cells : {run : Run} {words : List ℕ} (i : ℕ) → Fits run words → 1024 ≤ i → CellAt VUnit run words i
 past_cells {run} {words} i fits far =
     record { is = λ bytes. ap value_in (sym (get_or-eq_default (store_of run words bytes).cells (head 0) (omega (arith, length-cells run words bytes, fits.cells)))) }
 
 -- ---- the loop over the items: i of them are written
 
-pub record ItemsDone (image : List ℕ) (h : Header) (run words bytes : List ℕ) (first allowance : ℕ) (writing : Bool) (start : Spot) (out₀ : List ℕ) (i : ℕ) (end : Spot) (out : List ℕ) : Type 0 where
+pub record ItemsDone (image : List ℕ) (h : Header) (run : Run) (words bytes : List ℕ) (first allowance : ℕ) (writing : Bool) (start : Spot) (out₀ : List ℕ) (i : ℕ) (end : Spot) (out : List ℕ) : Type 0 where
   pub place : IsPlace end out
   pub long : length out ≡ length out₀
   pub passed : Writes image h (store_of run words bytes) allowance writing start (items_from image h (store_of run words bytes) first i) out₀ out (Ok end)
 
-module _ {image : List ℕ} {h : Header} {run words bytes : List ℕ} {first n : ℕ} {writing : Bool} where
+module _ {image : List ℕ} {h : Header} {run : Run} {words bytes : List ℕ} {first n : ℕ} {writing : Bool} where
   pub items_start : {start : Spot} {out : List ℕ} → IsPlace start out → ItemsDone image h run words bytes first n writing start out 0 start out
   items_start here = record { place = here; long = refl; passed = writes_none here }
 

@@ -18,6 +18,7 @@ use Rattle.pouring.specs.Pouring.{IsPlace, Puts, bits_before, spot_at}
 use Rattle.pouring.proofs.Written.{encoded_keeps}
 use Rattle.pouring.proofs.Places.{passed_none, passed_value, passed_then, passed_stop, passed_at, poured_value, poured_too_deep, puts_at}
 use Rattle.output.specs.Writing.{Encodes, Writes}
+use Rattle.stores.specs.declared.run.Run.{Run}
 
 -- pieces without values do not ask for an image
 no_image : Header
@@ -54,7 +55,7 @@ module _ {image : List ℕ} {h : Header} {σ : Store} {n : ℕ} {writing : Bool}
 
 -- ---- a value within, and a value of its pieces
 
-module _ {image : List ℕ} {h : Header} {run words bytes : List ℕ} {writing : Bool} {s : Spot} {out : List ℕ} where
+module _ {image : List ℕ} {h : Header} {run : Run} {words bytes : List ℕ} {writing : Bool} {s : Spot} {out : List ℕ} where
   pub writes_value : {n : ℕ} {v : Value} {out₁ : List ℕ} {r : Result Spot NoPlace} → Encodes image h run words bytes v n writing s out out₁ r
       → Writes image h (store_of run words bytes) n writing s (within v ∷ []) out out₁ r
   writes_value e = record { is = passed_value e.is }

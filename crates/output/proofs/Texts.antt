@@ -22,6 +22,7 @@ use Rattle.pouring.specs.declared.Spot.{Spot}
 use Rattle.pouring.specs.declared.NoPlace.{NoPlace}
 use Rattle.pouring.specs.Pouring.{Puts}
 use Rattle.output.specs.Writing.{head_pieces}
+use Rattle.stores.specs.declared.run.Run.{Run}
 
 pieces_append : (xs ys : List ℕ) → byte_pieces (xs ++ ys) ≡ byte_pieces xs ++ byte_pieces ys
 pieces_append [] ys = refl
@@ -47,7 +48,7 @@ text_puts image h bytes {made} {start} {len} {p} {from} {xs} {ys} {writing} {out
     puts
 
 -- the text of a value, and of a key
-pub pool_text_lem : (image : List ℕ) (h : Header) (run words bytes : List ℕ) (start len : ℕ) → pool_text image h (text_in run) bytes start len ≡ text_of image h (store_of run words bytes) start len
+pub pool_text_lem : (image : List ℕ) (h : Header) (run : Run) (words bytes : List ℕ) (start len : ℕ) → pool_text image h (text_in run) bytes start len ≡ text_of image h (store_of run words bytes) start len
 unfolding pool_text text_of store_of
 pool_text_lem image h run words bytes start len = refl
 
@@ -76,7 +77,7 @@ pub head_puts : (image : List ℕ) (h : Header) (σ : Store) {writing : Bool} {p
     → Puts writing p (head_pieces image h σ v) out out₁ r
 head_puts image h σ {writing} {p} v u {out} {out₁} {r} e puts = subst (λ (w : Value). Puts writing p (head_pieces image h σ w) out out₁ r) (sym e) puts
 
-module _ (image : List ℕ) (h : Header) (run words bytes : List ℕ) {writing : Bool} {p : ℕ} (v : Value) {start len : ℕ} {out out₁ : List ℕ} {r : Result Spot NoPlace} where
+module _ (image : List ℕ) (h : Header) (run : Run) (words bytes : List ℕ) {writing : Bool} {p : ℕ} (v : Value) {start len : ℕ} {out out₁ : List ℕ} {r : Result Spot NoPlace} where
   pub text_head : v ≡ Text start len → Puts writing p (put 4 6 ∷ length_and_bytes (pool_text image h (text_in run) bytes start len)) out out₁ r → Puts writing p (head_pieces image h (store_of run words bytes) v) out out₁ r
   text_head e puts =
       head_puts image h (store_of run words bytes) v (Text start len) e

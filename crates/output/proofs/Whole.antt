@@ -22,6 +22,7 @@ use Rattle.pouring.specs.Pouring.{IsPlace, Poured, Puts, bits_before}
 use Rattle.pouring.proofs.Places.{reached, poured_all}
 use Rattle.output.specs.Writing.{head_pieces, item_pieces, object_pieces, Encodes, Writes, written_of, Wrote}
 use Rattle.output.proofs.Steps.{writes_on, writes_stuck, writes_place, writes_puts, writes_value, encodes_pieces}
+use Rattle.stores.specs.declared.run.Run.{Run}
 
 module _ (image : List ℕ) (h : Header) (σ : Store) where
   -- what is within a value
@@ -67,7 +68,7 @@ module _ (image : List ℕ) (h : Header) (σ : Store) where
   plain (Tuple c) vec tuple object = absurd (tuple c refl)
   plain (Object c) vec tuple object = absurd (object c refl)
 
-module _ {image : List ℕ} {h : Header} {run words bytes : List ℕ} (v : Value) {a : ℕ} {writing : Bool} {s : Spot} {out out₁ : List ℕ} (some : 1 ≤ a) where
+module _ {image : List ℕ} {h : Header} {run : Run} {words bytes : List ℕ} (v : Value) {a : ℕ} {writing : Bool} {s : Spot} {out out₁ : List ℕ} (some : 1 ≤ a) where
   pub head_stuck : {why : NoPlace} → Puts writing (bits_before s) (head_pieces image h (store_of run words bytes) v) out out₁ (Err why) → Encodes image h run words bytes v a writing s out out₁ (Err why)
   head_stuck first = encodes_pieces some (both image h (store_of run words bytes) v) (writes_stuck (body_pieces image h (store_of run words bytes) v) (writes_puts first))
 
@@ -98,7 +99,7 @@ module _ {image : List ℕ} {h : Header} {run words bytes : List ℕ} (v : Value
 abbrev pub start : Spot
 start = record { bytes = 0; bits = 0 }
 
-pub whole_at : {image : List ℕ} {h : Header} {run words bytes : List ℕ} {v : Value} {writing : Bool} {end : Spot} {out out₁ : List ℕ} → Encodes image h run words bytes v 64 writing start out out₁ (Ok end)
+pub whole_at : {image : List ℕ} {h : Header} {run : Run} {words bytes : List ℕ} {v : Value} {writing : Bool} {end : Spot} {out out₁ : List ℕ} → Encodes image h run words bytes v 64 writing start out out₁ (Ok end)
     → IsPlace end out₁
 whole_at x = writes_place (record { small = omega arith; within = omega arith }) (writes_value x)
 
@@ -123,7 +124,7 @@ of_written image h out out₂ (bits bs) end n q e =
 of_written image h out out₂ nested end n q e = let z : ◌≡◌ {A = ℕ} 0 1 = cc q.told in absurd (omega arith)
 of_written image h out out₂ full end n q e = let z : ◌≡◌ {A = ℕ} 0 1 = cc q.told in absurd (omega arith)
 
-module _ {image : List ℕ} {h : Header} {run words bytes : List ℕ} {v : Value} {out : List ℕ} where
+module _ {image : List ℕ} {h : Header} {run : Run} {words bytes : List ℕ} {v : Value} {out : List ℕ} where
   -- from the start there is all the room
   whole : {writing : Bool} {out₁ : List ℕ} {r : Result Spot NoPlace} → Encodes image h run words bytes v 64 writing start out out₁ r → Poured writing 0 (value_encoded image h out v (store_of run words bytes)) out out₁ r
   whole {writing} {out₁} {r} x = subst (λ (n : ℕ). Poured writing 0 (encoded image h (store_of run words bytes) 64 n v) out out₁ r) (sub-zero (8 * length out)) x.is

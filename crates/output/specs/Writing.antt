@@ -15,9 +15,10 @@ use Rattle.pouring.specs.declared.Spot.{Spot}
 use Rattle.pouring.specs.declared.NoPlace.{NoPlace}
 use Rattle.pouring.specs.declared.NoPlace.TheVariants.{Nested, Full}
 use Rattle.pouring.specs.Pouring.{Poured, Passed, bits_before}
+use Rattle.stores.specs.declared.run.Run.{Run}
 
 -- an image as long as its header says, and stores that fit
-pub record Sound (image : List ℕ) (h : Header) (run words bytes : List ℕ) : Type 0 where
+pub record Sound (image : List ℕ) (h : Header) (run : Run) (words bytes : List ℕ) : Type 0 where
   pub whole : size_of h ≤ length image
   pub fits : Fits run words
   pub room : length bytes ≡ 16384
@@ -51,7 +52,7 @@ module _ (image : List ℕ) (h : Header) (σ : Store) where
   object_pieces c = entry_pieces image h σ (sorted_entries image h σ c σ.cells)
 
 -- the encoding of a value, behind so many bits
-pub record Encodes (image : List ℕ) (h : Header) (run words bytes : List ℕ) (v : Value) (allowance : ℕ) (writing : Bool) (s : Spot) (out out' : List ℕ) (r : Result Spot NoPlace) : Type 0 where
+pub record Encodes (image : List ℕ) (h : Header) (run : Run) (words bytes : List ℕ) (v : Value) (allowance : ℕ) (writing : Bool) (s : Spot) (out out' : List ℕ) (r : Result Spot NoPlace) : Type 0 where
   pub is : Poured writing (bits_before s) (encoded image h (store_of run words bytes) allowance (8 * length out - bits_before s) v) out out' r
 
 -- pieces in which so many values may stand in one another, behind so many bits

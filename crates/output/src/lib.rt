@@ -13,11 +13,12 @@ ghost use Rattle.output.specs.Writing.{Sound, head_pieces, item_pieces, entry_pi
 use boxes::{cell_at, count_in};
 use numbers::word::{float_to_word, int_to_word};
 use ordered::{count_entries, key_at, next_entry};
+use packed::image::Image;
 use packed::layout::Header;
 use pouring::{NoPlace, Spot, put, put_bytes};
 use rules::Value;
 use slots::{length_of, start_of};
-use stores::run::TEXT;
+use stores::lent::Stores;
 use texts::sources_of;
 
 // A kind, and a number of some width.
@@ -38,8 +39,7 @@ fn write_number(
 
 // A 16-bit length and the bytes of a text, the first `made` bytes having been built.
 fn write_text(
-    image: &[u8],
-    h: Header,
+    image: &Image,
     bytes: &[u8],
     made: usize,
     start: u32,
@@ -48,20 +48,19 @@ fn write_text(
     writing: bool,
     spot: Spot,
 ) -> Result<Spot, NoPlace>
-    requires { (size_of h ≤ length image.now) × (made ≤ length bytes.now) × IsPlace spot out.old }
-    ensures { Puts writing (bits_before spot) (length_and_bytes (pool_text image.now h made bytes.now start len)) out.old out.new result }
+    requires { (made ≤ length bytes.now) × IsPlace spot out.old }
+    ensures { Puts writing (bits_before spot) (length_and_bytes (pool_text image.now.bytes.now image.now.header made bytes.now start len)) out.old out.new result }
 {
-    let from = sources_of(h, made, start, len);
+    let from = sources_of(image.header, made, start, len);
     let count = from.image.count + from.built.count;
     let spot = put(out, writing, spot, 16, count as u64)?;
-    let spot = put_bytes(from.image.of(image), out, writing, spot)?;
+    let spot = put_bytes(from.image.of(image.bytes), out, writing, spot)?;
     put_bytes(from.built.of(bytes), out, writing, spot)
 }
 
 // Text or bytes with their kind.
 fn write_string(
-    image: &[u8],
-    h: Header,
+    image: &Image,
     bytes: &[u8],
     made: usize,
     kind: u64,
@@ -71,29 +70,26 @@ fn write_string(
     writing: bool,
     spot: Spot,
 ) -> Result<Spot, NoPlace>
-    requires { (size_of h ≤ length image.now) × (made ≤ length bytes.now) × IsPlace spot out.old }
-    ensures { Puts writing (bits_before spot) (piece 4 kind ∷ length_and_bytes (pool_text image.now h made bytes.now start len)) out.old out.new result }
+    requires { (made ≤ length bytes.now) × IsPlace spot out.old }
+    ensures { Puts writing (bits_before spot) (piece 4 kind ∷ length_and_bytes (pool_text image.now.bytes.now image.now.header made bytes.now start len)) out.old out.new result }
 {
     let spot = put(out, writing, spot, 4, kind)?;
-    write_text(image, h, bytes, made, start, len, out, writing, spot)
+    write_text(image, bytes, made, start, len, out, writing, spot)
 }
 
 // What stands before the values within a value: all of it where it holds none.
 fn write_head(
-    image: &[u8],
-    h: Header,
-    words: &[u64],
-    bytes: &[u8],
-    run: &[u64; 16],
+    image: &Image,
+    stores: &Stores,
     v: Value,
     out: &mut [u8],
     writing: bool,
     spot: Spot,
 ) -> Result<Spot, NoPlace>
-    requires { Sound image.now h run.now words.now bytes.now × IsPlace spot out.old }
-    ensures { Puts writing (bits_before spot) (head_pieces image.now h (store_of run.now words.now bytes.now) v) out.old out.new result }
+    requires { Sound image.now.bytes.now image.now.header stores.now.run stores.now.words.now stores.now.bytes.now × IsPlace spot out.old }
+    ensures { Puts writing (bits_before spot) (head_pieces image.now.bytes.now image.now.header (store_of stores.now.run stores.now.words.now stores.now.bytes.now) v) out.old out.new result }
 {
-    let made = run[TEXT] as usize;
+    let made = stores.run.text as usize;
     match v {
         Value::Unit => put(out, writing, spot, 4, 0),
         Value::Bool(b) => write_number(out, writing, spot, 1, 1, u64::from(b)),
@@ -101,60 +97,49 @@ fn write_head(
         Value::Signed(x) => write_number(out, writing, spot, 3, 64, int_to_word(x)),
         Value::Float(x) => write_number(out, writing, spot, 4, 64, float_to_word(x)),
         Value::Char(c) => write_number(out, writing, spot, 5, 21, c as u64),
-        Value::Text(s, l) => write_string(image, h, bytes, made, 6, s, l, out, writing, spot),
-        Value::Bytes(s, l) => write_string(image, h, bytes, made, 7, s, l, out, writing, spot),
-        Value::Vec(c) => {
-            write_number(out, writing, spot, 8, 12, count_in(words, run, c as usize))
-        }
-        Value::Tuple(c) => {
-            write_number(out, writing, spot, 9, 12, count_in(words, run, c as usize))
-        }
-        Value::Object(c) => {
-            write_number(out, writing, spot, 10, 12, count_entries(words, run, c))
-        }
+        Value::Text(s, l) => write_string(image, stores.bytes, made, 6, s, l, out, writing, spot),
+        Value::Bytes(s, l) => write_string(image, stores.bytes, made, 7, s, l, out, writing, spot),
+        Value::Vec(c) => { write_number(out, writing, spot, 8, 12, count_in(stores, c as usize)) }
+        Value::Tuple(c) => { write_number(out, writing, spot, 9, 12, count_in(stores, c as usize)) }
+        Value::Object(c) => { write_number(out, writing, spot, 10, 12, count_entries(stores, c)) }
     }
 }
 
 // The value of the i-th item after a head; unit past the last cell.
-fn item_value(words: &[u64], run: &[u64; 16], first: usize, i: u64) -> Value
-    requires { Fits run.now words.now × (first ≤ 4294967296) }
-    ensures { CellAt result run.now words.now (first + i) }
+fn item_value(stores: &Stores, first: usize, i: u64) -> Value
+    requires { (first ≤ 4294967296) }
+    ensures { CellAt result stores.now.run stores.now.words.now (first + i) }
 {
     if 1024 <= i {
         return Value::Unit;
     }
-    cell_at(words, run, first + i as usize)
+    cell_at(stores, first + i as usize)
 }
 
 // A value, in which so many may stand in one another.
 #[cycle(writers)]
 fn write_any(
-    image: &[u8],
-    h: Header,
-    words: &[u64],
-    bytes: &[u8],
-    run: &[u64; 16],
+    image: &Image,
+    stores: &Stores,
     v: Value,
     allowance: u32,
     out: &mut [u8],
     writing: bool,
     spot: Spot,
 ) -> Result<Spot, NoPlace>
-    requires { Sound image.now h run.now words.now bytes.now × IsPlace spot out.old }
-    ensures { Encodes image.now h run.now words.now bytes.now v allowance writing spot out.old out.new result }
+    requires { Sound image.now.bytes.now image.now.header stores.now.run stores.now.words.now stores.now.bytes.now × IsPlace spot out.old }
+    ensures { Encodes image.now.bytes.now image.now.header stores.now.run stores.now.words.now stores.now.bytes.now v allowance writing spot out.old out.new result }
 {
     if allowance == 0 {
         return Err(NoPlace::Nested);
     }
-    let spot = write_head(image, h, words, bytes, run, v, out, writing, spot)?;
+    let spot = write_head(image, stores, v, out, writing, spot)?;
     let within = allowance - 1;
     match v {
         Value::Vec(c) | Value::Tuple(c) => {
-            write_items(image, h, words, bytes, run, c, within, out, writing, spot)
+            write_items(image, stores, c, within, out, writing, spot)
         }
-        Value::Object(c) => {
-            write_entries(image, h, words, bytes, run, c, within, out, writing, spot)
-        }
+        Value::Object(c) => { write_entries(image, stores, c, within, out, writing, spot) }
         _ => Ok(spot),
     }
 }
@@ -162,26 +147,23 @@ fn write_any(
 // The items of a vec or tuple.
 #[cycle(writers)]
 fn write_items(
-    image: &[u8],
-    h: Header,
-    words: &[u64],
-    bytes: &[u8],
-    run: &[u64; 16],
+    image: &Image,
+    stores: &Stores,
     owner: u32,
     allowance: u32,
     out: &mut [u8],
     writing: bool,
     spot: Spot,
 ) -> Result<Spot, NoPlace>
-    requires { Sound image.now h run.now words.now bytes.now × IsPlace spot out.old }
-    ensures { Writes image.now h (store_of run.now words.now bytes.now) allowance writing spot (item_pieces image.now h (store_of run.now words.now bytes.now) owner) out.old out.new result }
+    requires { Sound image.now.bytes.now image.now.header stores.now.run stores.now.words.now stores.now.bytes.now × IsPlace spot out.old }
+    ensures { Writes image.now.bytes.now image.now.header (store_of stores.now.run stores.now.words.now stores.now.bytes.now) allowance writing spot (item_pieces image.now.bytes.now image.now.header (store_of stores.now.run stores.now.words.now stores.now.bytes.now) owner) out.old out.new result }
 {
     let first = owner as usize + 1;
-    let count = count_in(words, run, owner as usize);
+    let count = count_in(stores, owner as usize);
     let mut end = spot;
     for i in 0..count {
-        let v = item_value(words, run, first, i);
-        end = write_any(image, h, words, bytes, run, v, allowance, out, writing, end)?;
+        let v = item_value(stores, first, i);
+        end = write_any(image, stores, v, allowance, out, writing, end)?;
     }
     Ok(end)
 }
@@ -189,25 +171,21 @@ fn write_items(
 // An entry of an object: its key, and its value.
 #[cycle(writers)]
 fn write_entry(
-    image: &[u8],
-    h: Header,
-    words: &[u64],
-    bytes: &[u8],
-    run: &[u64; 16],
+    image: &Image,
+    stores: &Stores,
     i: usize,
     allowance: u32,
     out: &mut [u8],
     writing: bool,
     spot: Spot,
 ) -> Result<Spot, NoPlace>
-    requires { Sound image.now h run.now words.now bytes.now × IsPlace spot out.old }
-    ensures { Writes image.now h (store_of run.now words.now bytes.now) allowance writing spot (entry_piece image.now h (store_of run.now words.now bytes.now) i) out.old out.new result }
+    requires { Sound image.now.bytes.now image.now.header stores.now.run stores.now.words.now stores.now.bytes.now × IsPlace spot out.old }
+    ensures { Writes image.now.bytes.now image.now.header (store_of stores.now.run stores.now.words.now stores.now.bytes.now) allowance writing spot (entry_piece image.now.bytes.now image.now.header (store_of stores.now.run stores.now.words.now stores.now.bytes.now) i) out.old out.new result }
 {
-    let key = key_at(words, run, i);
+    let key = key_at(stores, i);
     let spot = write_text(
         image,
-        h,
-        bytes,
+        stores.bytes,
         0,
         start_of(key),
         length_of(key),
@@ -215,37 +193,32 @@ fn write_entry(
         writing,
         spot,
     )?;
-    let v = cell_at(words, run, i);
-    write_any(
-        image, h, words, bytes, run, v, allowance, out, writing, spot,
-    )
+    let v = cell_at(stores, i);
+    write_any(image, stores, v, allowance, out, writing, spot)
 }
 
 // The entries of an object, by ascending key.
 #[cycle(writers)]
 fn write_entries(
-    image: &[u8],
-    h: Header,
-    words: &[u64],
-    bytes: &[u8],
-    run: &[u64; 16],
+    image: &Image,
+    stores: &Stores,
     owner: u32,
     allowance: u32,
     out: &mut [u8],
     writing: bool,
     spot: Spot,
 ) -> Result<Spot, NoPlace>
-    requires { Sound image.now h run.now words.now bytes.now × IsPlace spot out.old }
-    ensures { Writes image.now h (store_of run.now words.now bytes.now) allowance writing spot (object_pieces image.now h (store_of run.now words.now bytes.now) owner) out.old out.new result }
+    requires { Sound image.now.bytes.now image.now.header stores.now.run stores.now.words.now stores.now.bytes.now × IsPlace spot out.old }
+    ensures { Writes image.now.bytes.now image.now.header (store_of stores.now.run stores.now.words.now stores.now.bytes.now) allowance writing spot (object_pieces image.now.bytes.now image.now.header (store_of stores.now.run stores.now.words.now stores.now.bytes.now) owner) out.old out.new result }
 {
-    let count = count_entries(words, run, owner);
+    let count = count_entries(stores, owner);
     let mut last = None;
     let mut end = spot;
     for _k in 0..count {
-        let Some(i) = next_entry(image, h, words, run, owner, last) else {
+        let Some(i) = next_entry(image, stores, owner, last) else {
             return Ok(end);
         };
-        end = write_entry(image, h, words, bytes, run, i, allowance, out, writing, end)?;
+        end = write_entry(image, stores, i, allowance, out, writing, end)?;
         last = Some(i);
     }
     Ok(end)
@@ -264,19 +237,16 @@ fn length_at(spot: Spot) -> usize
 
 // Writes a value, and tells how many bytes it takes, or why it has no place there. Where it has none, the output stays as it is.
 pub fn write_value(
-    image: &[u8],
-    h: Header,
-    words: &[u64],
-    bytes: &[u8],
-    run: &[u64; 16],
+    image: &Image,
+    stores: &Stores,
     v: Value,
     out: &mut [u8],
 ) -> Result<usize, NoPlace>
-    requires { Sound image.now h run.now words.now bytes.now }
-    ensures { Wrote image.now h (store_of run.now words.now bytes.now) v out.old out.new result }
+    requires { Sound image.now.bytes.now image.now.header stores.now.run stores.now.words.now stores.now.bytes.now }
+    ensures { Wrote image.now.bytes.now image.now.header (store_of stores.now.run stores.now.words.now stores.now.bytes.now) v out.old out.new result }
 {
     let start = Spot { bytes: 0, bits: 0 };
-    write_any(image, h, words, bytes, run, v, 64, out, false, start)?;
-    let end = write_any(image, h, words, bytes, run, v, 64, out, true, start)?;
+    write_any(image, stores, v, 64, out, false, start)?;
+    let end = write_any(image, stores, v, 64, out, true, start)?;
     Ok(length_at(end))
 }

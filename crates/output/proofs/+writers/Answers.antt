@@ -52,16 +52,16 @@ pub write_entry-returns-in_err-spot : goal.write_entry-returns-in_err-spot
 write_entry-returns-in_err-spot t c =
     let p = err_from_is_err_and c.from_residual.result c.from_residual.ensures.1 in
     rw (p.1, p.2)
-    (entry_stuck c.args.image.now c.args.bytes.now c.key_at-key.ensures
-    (key_puts c.args.image.now c.args.h c.args.bytes.now c.key_at-key.result c.start_of.ensures c.length_of.ensures c.in_err-spot.ensures))
+    (entry_stuck c.args.image.now.bytes.now c.args.stores.now.bytes.now c.key_at-key.ensures
+    (key_puts c.args.image.now.bytes.now c.args.image.now.header c.args.stores.now.bytes.now c.key_at-key.result c.start_of.ensures c.length_of.ensures c.in_err-spot.ensures))
 
 pub write_entry-write_any-requires : goal.write_entry-write_any-requires
 write_entry-write_any-requires t c = (omega arith, (c.requires.0, puts_place c.requires.1 c.in_ok-spot.ensures))
 
 pub write_entry-returns : goal.write_entry-returns
 write_entry-returns t c =
-    entry_value c.args.image.now c.args.bytes.now c.key_at-key.ensures
-    (key_puts c.args.image.now c.args.h c.args.bytes.now c.key_at-key.result c.start_of.ensures c.length_of.ensures c.in_ok-spot.ensures)
+    entry_value c.args.image.now.bytes.now c.args.stores.now.bytes.now c.key_at-key.ensures
+    (key_puts c.args.image.now.bytes.now c.args.image.now.header c.args.stores.now.bytes.now c.key_at-key.result c.start_of.ensures c.length_of.ensures c.in_ok-spot.ensures)
     c.cell_at-v.ensures c.write_any.ensures
 
 pub write_items-loop-i-init : goal.write_items-loop-i-init
