@@ -2,13 +2,13 @@
 use mathlib.Core.Path.{◌≡◌, refl, sym, ap, ap₂, ◌∙◌, subst}
 use mathlib.Core.Logic.{inr}
 use mathlib.Core.Bool.{Bool, true, false, cond}
-use mathlib.Core.List.{List, [], ◌∷◌, ◌++◌, map, map-append, append_assoc}
+use mathlib.Core.List.{List, [], ◌∷◌, ◌++◌, map-append, append_assoc}
 use mathlib.Core.Option.{some, none}
-use Prim.Native.Nat.{ℕ, zero, suc, ◌+◌, ◌-◌, ◌*◌, ◌/◌, ◌%◌, ◌≤◌, ◌<◌}
-use native.Mathlib.Nat.{suc-add}
+use Prim.Native.Nat.{ℕ, suc, ◌+◌, ◌-◌, ◌*◌, ◌/◌, ◌%◌, ◌≤◌, ◌<◌}
 use native.Mathlib.Numerals.{add-one, add-two, add-three}
 use native.Mathlib.Omega.{arith}
 use borrow.Author.Tests.{ne_eqb, le-leb, lt-leb}
+use Rattle.std.proofs.lemmas.List.{map-set, set-append_right}
 use lib.Dec.{eqb}
 use lib.ListN.{length, get_or, set, take, drop, length-append, length-drop, length-set, length-map, get_or-append, get_or-map}
 use lib.Seq.{sets, length-sets, length-take-le, drop-cons, ext_get_or, get_or-set_other, get_or-drop, get_or-append-add}
@@ -25,18 +25,6 @@ use Rattle.slots.proofs.Rows.{stores_2}
 use Rattle.stores.proofs.Views.{length-view, view_get, view_set, view_push, view_apart}
 use Rattle.entries.proofs.EntryLaws.{keys_of, nothing, key_from, found_within, entered_new, entered_known}
 use Rattle.stores.proofs.Regions.{bindings_apart, pendings_apart}
-
--- ---- lists
-
-map_set : {A B : Type 0} (f : A → B) (l : List A) (i : ℕ) (x : A) → map f (set l i x) ≡ set (map f l) i (f x)
-map_set f [] i x = refl
-map_set f (y ∷ ys) zero x = refl
-map_set f (y ∷ ys) (suc i) x = ap (λ (r : List _). f y ∷ r) (map_set f ys i x)
-
-set_append_right : {A : Type 0} (xs ys : List A) (i : ℕ) (a : A) → set (xs ++ ys) (length xs + i) a ≡ xs ++ set ys i a
-set_append_right [] ys i a = ap (λ (k : ℕ). set ys k a) (omega arith)
-set_append_right (x ∷ xs) ys i a =
-    ap (λ (k : ℕ). set (x ∷ xs ++ ys) k a) (suc-add (length xs) i) ∙ ap (λ (r : List _). x ∷ r) (set_append_right xs ys i a)
 
 -- ---- a pending item's two words
 
@@ -183,11 +171,9 @@ module _ (image : List ℕ) (h : Header) (key head end at : ℕ) (words : List �
         only (λ n. cells_in n (sets words (1792 + 4 * i) two) ≡ cells_in (head + 1) words ++ entries_of head (after es)) end
         (view_set cell_in 1792 4 end i words two within.1 (omega (arith, length_two)) (omega arith)
         ∙ ap₂ (λ (cs : List Cell) (c : Cell). set cs i c) stand (replaced_cell es stand)
-        ∙ ap (λ (n : ℕ). set (cells_in (head + 1) words ++ entries_of head es) n (entry head (get_or es j nothing).0 (pending_in two)))
-        (number ∙ ap (λ (n : ℕ). n + j) (sym (length-view cell_in 1792 4 (head + 1) words)))
-        ∙ set_append_right (cells_in (head + 1) words) (entries_of head es) j (entry head (get_or es j nothing).0 (pending_in two))
+        ∙ set-append_right (cells_in (head + 1) words) (entries_of head es) (head + 1) i (entry head (get_or es j nothing).0 (pending_in two)) (length-view cell_in 1792 4 (head + 1) words) (omega arith)
         ∙ ap (λ (cs : List Cell). cells_in (head + 1) words ++ cs)
-        (sym (ap (entries_of head) (replaced es stand) ∙ map_set (λ (e : ℕ × Value). entry head e.0 e.1) es j ((get_or es j nothing).0, pending_in two)))))
+        (sym (ap (entries_of head) (replaced es stand) ∙ map-set (λ (e : ℕ × Value). entry head e.0 e.1) es j ((get_or es j nothing).0, pending_in two)))))
 
   module _ (missing : key_from image h key end words (head + 1) ≡ none) where
     appended : (es : List (ℕ × Value)) → Stand es → after es ≡ es ++ ((key, pending_in two) ∷ [])

@@ -9,6 +9,7 @@ use Prim.Native.Nat.{ℕ, zero, suc, ◌+◌, ◌≤◌, ◌<◌}
 use native.Mathlib.Decide.{dec_lt}
 use native.Mathlib.Omega.{arith}
 use borrow.Author.Tests.{lt-ltb, le-ltb, not-true}
+use Rattle.std.proofs.lemmas.Bool.{false_from_ne_true}
 use lib.ListN.{length, get_or}
 use Rattle.packed.specs.declared.layout.Header.{Header}
 use Rattle.rules.specs.Store.{Cell, head}
@@ -21,10 +22,6 @@ use Rattle.ordered.proofs.Ascending.{ascending_total, ascending_trans, ascending
 abbrev pub head_of : List ℕ → Option ℕ
 head_of [] = none
 head_of (i ∷ is) = some i
-
-never_true : (b : Bool) → (b ≡ true → ⊥) → b ≡ false
-never_true true f = absurd (f refl)
-never_true false f = refl
 
 module _ (image : List ℕ) (h : Header) (cells : List Cell) where
   -- ---- which of two cells is written first
@@ -71,14 +68,14 @@ module _ (image : List ℕ) (h : Header) (cells : List Cell) where
 
           why : (i < j) ⊎ (ordered j i ≡ false) → (j < k) ⊎ (ordered k j ≡ false) → (i < k) ⊎ (ordered k i ≡ false)
           why (inl a) (inl b) = inl (omega arith)
-          why (inr a) b = inr (never_true (ordered k i) (λ t. true≢false (sym (through j k i up' t) ∙ a)))
-          why (inl a) (inr b) = inr (never_true (ordered k i) (λ t. true≢false (sym (through k i j t up) ∙ b)))
+          why (inr a) b = inr (false_from_ne_true (ordered k i) (λ t. true≢false (sym (through j k i up' t) ∙ a)))
+          why (inl a) (inr b) = inr (false_from_ne_true (ordered k i) (λ t. true≢false (sym (through k i j t up) ∙ b)))
 
   not_itself : (i : ℕ) → precedes image h cells i i ≡ false
   not_itself i = downward i i (omega arith) ∙ ap not (ascending_self (key_text image h cells i))
 
   not_both : (i j : ℕ) → First i j → precedes image h cells j i ≡ false
-  not_both i j p = never_true (precedes image h cells j i) (λ q. true≢false (sym (first_trans i j i p q) ∙ not_itself i))
+  not_both i j p = false_from_ne_true (precedes image h cells j i) (λ q. true≢false (sym (first_trans i j i p q) ∙ not_itself i))
 
   -- ---- the sorted cells stand in that order
 

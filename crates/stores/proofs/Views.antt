@@ -3,11 +3,12 @@ use mathlib.Core.Path.{◌≡◌, refl, sym, ap, ap₂, ◌∙◌, subst}
 use mathlib.Core.Logic.{◌⊎◌, inl, inr, ⊎_elim}
 use mathlib.Core.List.{List, [], ◌∷◌, ◌++◌, append_assoc}
 use Prim.Native.Nat.{ℕ, zero, suc, ◌+◌, ◌-◌, ◌*◌, ◌≤◌, ◌<◌}
-use native.Mathlib.Nat.{le_of_suc-le-suc, not-suc-le-zero, eq-or-lt_of_le, mul-le-mul_left, mul-suc, zero-add, suc-add}
+use native.Mathlib.Nat.{le_of_suc-le-suc, not-suc-le-zero, eq-or-lt_of_le, mul-le-mul_left, mul-suc}
 use native.Mathlib.Numerals.{add-one}
 use native.Mathlib.Omega.{arith}
+use Rattle.std.proofs.lemmas.List.{drop-take}
 use lib.ListN.{length, get_or, set, take, drop, length-append, get_or-append}
-use lib.Seq.{sets, sets-eq, drop-set-lt, drop-set-add, take-set-le, drop_at, take_at, length-take-le, set-append_left, set_at, get_or_at, get_or-take, get_or-drop, take-append-add, drop-drop, take-nil, take_all, take-append-le}
+use lib.Seq.{sets, sets-eq, drop-set-lt, drop-set-add, take-set-le, drop_at, take_at, length-take-le, set-append_left, set_at, get_or_at, get_or-take, get_or-drop, take-append-add, drop-drop, take_all, take-append-le}
 use Rattle.stores.specs.View.{rec_at, view}
 
 -- a part of a list after a store outside it
@@ -23,24 +24,18 @@ part_set l a s j v side =
     side
 
 -- and after a run of stores
-pub part_apart : (vs l : List ℕ) (a s at : ℕ) → (at + length vs ≤ a) ⊎ (a + s ≤ at) → take s (drop a (sets l at vs)) ≡ take s (drop a l)
+part_apart : (vs l : List ℕ) (a s at : ℕ) → (at + length vs ≤ a) ⊎ (a + s ≤ at) → take s (drop a (sets l at vs)) ≡ take s (drop a l)
 part_apart [] l a s at side = refl
 part_apart (v ∷ vs) l a s at side =
     part_apart vs (set l at v) a s (suc at) (⊎_elim (λ h. inl (omega arith)) (λ h. inr (omega arith)) side)
     ∙ part_set l a s at v (⊎_elim (λ h. inl (omega arith)) (λ h. inr h) side)
 
 -- the part that a run of stores wrote
-pub part_here : (vs l : List ℕ) (at : ℕ) → at + length vs ≤ length l → take (length vs) (drop at (sets l at vs)) ≡ vs
+part_here : (vs l : List ℕ) (at : ℕ) → at + length vs ≤ length l → take (length vs) (drop at (sets l at vs)) ≡ vs
 part_here vs l at h =
     ap (λ (r : List ℕ). take (length vs) (drop at r)) (sets-eq vs l at h ∙ append_assoc (take at l) vs (drop (at + length vs) l))
     ∙ ap (take (length vs)) (drop_at (take at l) (vs ++ drop (at + length vs) l) at (length-take-le at l (omega arith)))
     ∙ take_at vs (drop (at + length vs) l) (length vs) refl
-
--- what is left of the first words
-pub drop-take : (k m : ℕ) (l : List ℕ) → drop k (take (k + m) l) ≡ take m (drop k l)
-drop-take zero m l = ap (λ (j : ℕ). take j l) (zero-add m)
-drop-take (suc k) m [] = ap (λ (r : List ℕ). drop (suc k) r) (take-nil (suc k + m)) ∙ sym (take-nil m)
-drop-take (suc k) m (x ∷ l) = ap (λ (j : ℕ). drop (suc k) (take j (x ∷ l))) (suc-add k m) ∙ drop-take k m l
 
 module _ {R : Type 0} (d : List ℕ → R) (base stride : ℕ) where
   pub length-view : (n : ℕ) (l : List ℕ) → length (view d base stride n l) ≡ n

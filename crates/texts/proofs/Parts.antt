@@ -18,7 +18,7 @@ use Rattle.std.proofs.lemmas.Bool.Decides.{nat_tests}
 use Rattle.std.proofs.lemmas.Cmp.{same_from_slice_cmp_tested}
 use Rattle.rules.specs.Store.{same_text}
 use Rattle.rules.specs.Output.{ascending}
-use Rattle.stores.proofs.Views.{drop-take}
+use Rattle.std.proofs.lemmas.List.{drop-take}
 
 -- ---- where a part is, and how long
 

@@ -19,7 +19,7 @@ use Rattle.rules.specs.Store.{image_text}
 use Rattle.texts.specs.declared.Span.{Span}
 use Rattle.texts.specs.declared.Sources.{Sources}
 use Rattle.texts.specs.Text.{bytes_of, Spans, first_part, image_part, pool_text, Sourced}
-use Rattle.stores.proofs.Views.{drop-take}
+use Rattle.std.proofs.lemmas.List.{drop-take}
 use Rattle.texts.proofs.Parts.{length_part, first_part_is, part_of_rest, part_of_both}
 
 -- ---- a text put where there is room for it

@@ -6,10 +6,10 @@ use Rattle.entries.proofs.EntryLaws.{key_turn, key_none}
 use Rattle.entries.proofs.find_key.Goals as goal
 
 pub returns-then-same_part : goal.returns-then-same_part
-returns-then-same_part c = sym (ap found_of (c.loop-i.invariant ∙ key_turn _ _ _ _ _ _ _ (omega arith) (sym c.if-same_part.true ∙ c.same_part.ensures)))
+returns-then-same_part c = sym (ap found_of (c.loop-i.invariant ∙ key_turn _ _ _ _ _ _ _ (omega arith) c.if-same_part.ensures))
 
 pub loop-i-preserved : goal.loop-i-preserved
-loop-i-preserved c = c.loop-i.invariant ∙ key_turn _ _ _ _ _ _ _ (omega arith) (sym c.if-same_part.false ∙ c.same_part.ensures)
+loop-i-preserved c = c.loop-i.invariant ∙ key_turn _ _ _ _ _ _ _ (omega arith) c.if-same_part.ensures
 
 pub returns : goal.returns
 returns c = sym (ap found_of (c.loop-i.invariant ∙ key_none _ _ _ _ _ _ (omega arith)))
