@@ -21,6 +21,8 @@ use Rattle.boxes.specs.Cells.{CountIn, ItemAt, CellAt, field_entered}
 use Rattle.stores.proofs.Views.{view_get, view_push, rec_word}
 use Rattle.stores.proofs.Chains.{kept_same, refused, made, became_as}
 use Rattle.stores.proofs.Counted.{cells_counted, length_part, one_more, one_anew}
+use Rattle.stores.specs.declared.run.Run.{Run}
+use Rattle.stores.specs.Run.{set_cells}
 
 -- ---- what the words of a cell say
 
@@ -77,7 +79,7 @@ module _ (words : List ℕ) (i : ℕ) where
 
 -- ---- the cells of the store, and what is read of them
 
-module _ (run words bytes : List ℕ) where
+module _ (run : Run) (words bytes : List ℕ) where
   pub length-cells : length (store_of run words bytes).cells ≡ cells_of run
   length-cells = length_part cells_counted run words bytes
 
@@ -85,7 +87,7 @@ module _ (run words bytes : List ℕ) where
   unfolding store_of cells_in
   cell_get i below = view_get cell_in 1792 4 (cells_of run) i words (head 0) below
 
-module _ (run words : List ℕ) (i : ℕ) where
+module _ (run : Run) (words : List ℕ) (i : ℕ) where
   -- cell i is x, whatever text there is
   abbrev There : Cell → Type 0
   There x = (bytes : List ℕ) → get_or (store_of run words bytes).cells i (head 0) ≡ x
@@ -141,7 +143,7 @@ cell_held words i v ne back =
     rw (get_or-drop 2 (rec_at 1792 4 i words) 0 0, get_or-drop 2 (rec_at 1792 4 i words) 1 0, back, cell_word words i 2 (omega arith), ne_eqb (what words i % 4) 0 ne)
     (sym (owned_holding (eqb (what words i % 4) 1) _ _ _ v))
 
-module _ (run words : List ℕ) (i : ℕ) (v : Value) (f : Fits run words) where
+module _ (run : Run) (words : List ℕ) (i : ℕ) (v : Value) (f : Fits run words) where
   pub store_owned : (words' : List ℕ) → i < cells_of run → what words i % 4 ≢ 0 → Put v (1792 + 4 * i) words words' → BecameWords (λ σ. stored_at σ i v) run words run words'
   store_owned words' below ne put bytes =
       subst (λ (w : List ℕ). Became (λ σ. stored_at σ i v) run words bytes run w bytes) (sym put.stored)
@@ -181,17 +183,17 @@ entry_words : (owner key : ℕ) (v : Value) → value_of (slot_of v).kind (slot_
 unfolding cell_in
 entry_words owner key v back = rw (what_kind owner 2 (omega arith), what_owner owner 2 (omega arith), back)
 
-module _ (owner key : ℕ) (v : Value) (run words : List ℕ) (f : Fits run words) where
+module _ (owner key : ℕ) (v : Value) (run : Run) (words : List ℕ) (f : Fits run words) where
   pub enter_full : 1024 ≤ cells_of run → TriedWords false (field_entered owner key v) run words run words
   enter_full full bytes =
       refused (field_entered owner key v) f (rw (length-cells run words bytes, lt-leb (cells_of run + 1) 1024 (omega arith)))
 
   pub enter_made : (words' : List ℕ) → cells_of run < 1024 → Put v (1792 + 4 * cells_of run) words words'
-      → TriedWords true (field_entered owner key v) run words (set run 5 (cells_of run + 1)) (set (set words' (1792 + 4 * cells_of run + 2) (4 * owner + 2)) (1792 + 4 * cells_of run + 3) key)
+      → TriedWords true (field_entered owner key v) run words (set_cells run (cells_of run + 1)) (set (set words' (1792 + 4 * cells_of run + 2) (4 * owner + 2)) (1792 + 4 * cells_of run + 3) key)
   enter_made words' below put bytes =
       let at = 1792 + 4 * cells_of run in
       let vs = slot_words v ++ (4 * owner + 2) ∷ key ∷ [] in
-      subst (λ (w : List ℕ). Tried true (field_entered owner key v) run words bytes (set run 5 (cells_of run + 1)) w bytes)
+      subst (λ (w : List ℕ). Tried true (field_entered owner key v) run words bytes (set_cells run (cells_of run + 1)) w bytes)
       (sym (ap (λ (w : List ℕ). set (set w (at + 2) (4 * owner + 2)) (at + 3) key) put.stored ∙ entry_stores words at (slot_of v).payload (slot_of v).kind (4 * owner + 2) key))
       (made (field_entered owner key v) (λ σ. with_cells (σ.cells ++ (entry owner key v ∷ [])) σ)
       (rw (length-cells run words bytes, le-leb (cells_of run + 1) 1024 (omega arith)))

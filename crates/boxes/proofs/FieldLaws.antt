@@ -18,6 +18,7 @@ use Rattle.stores.specs.Finding.{found_of}
 use Rattle.stores.specs.Stores.{cells_of, store_of}
 use Rattle.boxes.specs.Cells.{EntryAt, matches, is_entry}
 use Rattle.boxes.proofs.CellLaws.{what, key_at, cell_head, cell_item, cell_entry, length-cells, cell_get}
+use Rattle.stores.specs.declared.run.Run.{Run}
 
 module _ (image : List ℕ) (h : Header) (owner key : ℕ) where
   -- ---- one cell
@@ -51,7 +52,7 @@ module _ (image : List ℕ) (h : Header) (owner key : ℕ) where
   found_cons i (item o v) cs = refl
   found_cons i (entry o k v) cs = refl
 
-  look : (run words bytes : List ℕ) (i : ℕ) (r : Bool) → i < cells_of run → r ≡ is_entry image h owner key words i
+  look : (run : Run) (words bytes : List ℕ) (i : ℕ) (r : Bool) → i < cells_of run → r ≡ is_entry image h owner key words i
       → found i (drop i (store_of run words bytes).cells) ≡ cond r (some i) (found (i + 1) (drop (i + 1) (store_of run words bytes).cells))
   look run words bytes i r below e =
       let cells = (store_of run words bytes).cells in
@@ -59,7 +60,7 @@ module _ (image : List ℕ) (h : Header) (owner key : ℕ) where
       ∙ found_cons i (get_or cells i (head 0)) (drop (suc i) cells)
       ∙ ap₂ (λ (b : Bool) (k : ℕ). cond b (some i) (found k (drop k cells))) (ap (matches image h owner key) (cell_get run words bytes i below) ∙ sym e) (sym (add-one i))
 
-  module _ (run words : List ℕ) where
+  module _ (run : Run) (words : List ℕ) where
     -- the search is that of the cells from i on
     pub record LeftFrom (i : ℕ) : Type 0 where
       pub is : (bytes : List ℕ) → found 0 (store_of run words bytes).cells ≡ found i (drop i (store_of run words bytes).cells)

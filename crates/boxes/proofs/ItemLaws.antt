@@ -1,7 +1,7 @@
 -- The laws of items: pending items copied to the cells after a head, and given back. Assumes nothing.
 use mathlib.Core.Path.{◌≡◌, refl, sym, ap, ap₂, ◌∙◌}
 use mathlib.Core.Logic.{inr}
-use mathlib.Core.Bool.{true, false, true≢false}
+use mathlib.Core.Bool.{true, false}
 use mathlib.Core.List.{List, [], ◌∷◌, ◌++◌, map, append-nil, append_assoc, map-append}
 use mathlib.Core.Option.{some}
 use Prim.Native.Nat.{ℕ, suc, ◌+◌, ◌-◌, ◌*◌, ◌≤◌, ◌<◌}
@@ -12,15 +12,17 @@ use lib.Seq.{sets, length-sets, get_or-set_other}
 use Rattle.rules.specs.declared.Value.{Value}
 use Rattle.rules.specs.Store.{Cell, head, item, with_cells, dropped}
 use Rattle.slots.specs.Slot.{value_of}
-use Rattle.stores.specs.Stores.{bound_of, pending_of, cells_of, cell_in, pendings_in, cells_in, store_of, Fits, BecameRun, TriedWords}
+use Rattle.stores.specs.Stores.{bound_of, pending_of, cells_of, cell_in, pendings_in, cells_in, store_of, Fits, Became, Tried, TriedWords}
 use Rattle.boxes.specs.Cells.{CopiedItems, head_words, items_taken}
 use Rattle.slots.proofs.Rows.{stores_4}
 use Rattle.stores.proofs.Regions.{bindings_apart, pendings_apart, in_cells, fits_words, fits_stored}
 use Rattle.stores.proofs.Numbers.{cells_set}
 use Rattle.stores.proofs.PendingLaws.{pendings_none, pendings_more, pendings_since, length-pending}
 use Rattle.boxes.proofs.CellLaws.{what_kind, what_owner, length-cells, cells_push}
-use Rattle.stores.proofs.Chains.{refused, kept_then}
+use Rattle.stores.proofs.Chains.{refused, made, became_then}
 use Rattle.stores.proofs.Counted.{cells_counted, recounted}
+use Rattle.stores.specs.declared.run.Run.{Run}
+use Rattle.stores.specs.Run.{set_cells}
 
 -- ---- items copied
 
@@ -87,7 +89,7 @@ module _ (at from i : ℕ) (words₀ words : List ℕ) where
       rw (left, stores_4 words place payload kind (4 * at + 1) 0) (copied_stored done room fewer long)
 
 -- the rest of the store is as it was
-module _ (at from count : ℕ) (run words words' : List ℕ) (f : Fits run words) (copied : CopiedItems at from count words words') where
+module _ (at from count : ℕ) (run : Run) (words words' : List ℕ) (f : Fits run words) (copied : CopiedItems at from count words words') where
   store_copied : (bytes : List ℕ) → store_of run words' bytes ≡ with_cells (cells_in (cells_of run) words') (store_of run words bytes)
   unfolding store_of
   store_copied bytes = rw (copied.bindings (bound_of run) f.bindings, copied.pendings (pending_of run) f.pending)
@@ -102,7 +104,7 @@ head_words_lem : (count : ℕ) → cell_in (head_words count) ≡ head count
 unfolding cell_in
 head_words_lem count = refl
 
-module _ (from count : ℕ) (run words : List ℕ) (f : Fits run words) (since : count ≡ pending_of run - from) where
+module _ (from count : ℕ) (run : Run) (words : List ℕ) (f : Fits run words) (since : count ≡ pending_of run - from) where
   how_many : (bytes : List ℕ) → length (drop from (store_of run words bytes).pending) ≡ count
   how_many bytes = length-drop from (store_of run words bytes).pending ∙ ap (λ (n : ℕ). n - from) (length-pending run words bytes) ∙ sym since
 
@@ -128,19 +130,22 @@ module _ (from count : ℕ) (run words : List ℕ) (f : Fits run words) (since :
       ∙ ap (drop from) (pendings_apart words (head_words count) (1792 + 4 * n) (pending_of run) f.pending (inr (omega arith))))
       ∙ append_assoc (cells_in n words) (head count ∷ []) (map (item n) (drop from (store_of run words bytes).pending))
 
-  pub take-made : (words' run' : List ℕ) → cells_of run + 1 + count ≤ 1024 → CopiedItems (cells_of run) from count headed words' → BecameRun (dropped from) run run'
-      → TriedWords true (items_taken from) run words (set run' 5 (cells_of run + 1 + count)) words'
-  take-made words' run' room copied given_back bytes =
+  pub take-made : (words' bytes : List ℕ) (run'' : Run) (words'' bytes'' : List ℕ) → cells_of run + 1 + count ≤ 1024 → CopiedItems (cells_of run) from count headed words'
+      → Became (dropped from) (set_cells run (cells_of run + 1 + count)) words' bytes run'' words'' bytes'' → Tried true (items_taken from) run words bytes run'' words'' bytes''
+  take-made words' bytes run'' words'' bytes'' room copied given_back =
       let n = cells_of run in
+      let m = n + 1 + count in
       let σ = store_of run words bytes in
       let headed-fits = fits_stored run words bytes (head_words count) (1792 + 4 * n) f in
-      let back = given_back words' bytes (fits_copied n from count run headed words' headed-fits copied) in
+      let copied-fits = fits_copied n from count run headed words' headed-fits copied in
+      let now-copied : Became (with_cells (cells_in m words')) run words bytes (set_cells run m) words' bytes =
       record {
-        did =
-            rw (length-cells run words bytes, length-map (drop from σ.pending) (item (length σ.cells)), how_many bytes, le-leb (n + suc count) 1024 (omega arith))
-            (ap some (sym (cells_set run' words' bytes (n + 1 + count) back.kept.fits.run_length
-            ∙ ap₂ with_cells (cells_taken words' bytes room copied)
-            (back.store ∙ ap (dropped from) (store_copied n from count run headed words' headed-fits copied bytes ∙ ap (with_cells _) (in_cells run words bytes (head_words count) (1792 + 4 * n) f (omega arith)))))));
-        undone = λ e. absurd (true≢false e);
-        kept = kept_then back.kept (recounted cells_counted run' words' (n + 1 + count) back.kept.fits room bytes).kept;
-      }
+        store =
+            cells_set run words' bytes m
+            ∙ ap (with_cells (cells_in m words')) (store_copied n from count run headed words' headed-fits copied bytes ∙ ap (with_cells _) (in_cells run words bytes (head_words count) (1792 + 4 * n) f (omega arith)));
+        kept = (recounted cells_counted run words' m copied-fits room bytes).kept;
+      } in
+      made (items_taken from) _
+      (rw (length-cells run words bytes, length-map (drop from σ.pending) (item (length σ.cells)), how_many bytes, le-leb (n + suc count) 1024 (omega arith))
+      (ap (λ (cs : List Cell). some (dropped from (with_cells cs σ))) (sym (cells_taken words' bytes room copied))))
+      (became_then now-copied given_back)

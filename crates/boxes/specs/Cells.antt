@@ -8,19 +8,20 @@ use Rattle.rules.specs.Building.{item_cells}
 use Rattle.stores.specs.Finding.{found_of}
 use Rattle.stores.specs.View.{rec_at}
 use Rattle.stores.specs.Stores.{store_of, cell_in, bindings_in, pendings_in, cells_in}
+use Rattle.stores.specs.declared.run.Run.{Run}
 
 -- what is found and read does not depend on text
-pub record CountIn (r : ℕ) (run words : List ℕ) (owner : ℕ) : Type 0 where
+pub record CountIn (r : ℕ) (run : Run) (words : List ℕ) (owner : ℕ) : Type 0 where
   pub is : (bytes : List ℕ) → r ≡ count_in (get_or (store_of run words bytes).cells owner (head 0))
 
-pub record ItemAt (r : Option ℕ) (run words : List ℕ) (owner index : ℕ) : Type 0 where
+pub record ItemAt (r : Option ℕ) (run : Run) (words : List ℕ) (owner index : ℕ) : Type 0 where
   pub is : (bytes : List ℕ) → r ≡ found_of (item_at (store_of run words bytes) owner index)
 
-pub record CellAt (r : Value) (run words : List ℕ) (i : ℕ) : Type 0 where
+pub record CellAt (r : Value) (run : Run) (words : List ℕ) (i : ℕ) : Type 0 where
   pub is : (bytes : List ℕ) → r ≡ cell_at (store_of run words bytes) i
 
 -- "Object keys are compared by content"
-pub record EntryAt (r : Option ℕ) (image : List ℕ) (h : Header) (run words : List ℕ) (owner key : ℕ) : Type 0 where
+pub record EntryAt (r : Option ℕ) (image : List ℕ) (h : Header) (run : Run) (words : List ℕ) (owner key : ℕ) : Type 0 where
   pub is : (bytes : List ℕ) → r ≡ found_of (entry_at image h owner (part_text image h key) 0 (store_of run words bytes).cells)
 
 -- a cell that is the owner's entry of that key

@@ -4,7 +4,7 @@ use Rattle.boxes.proofs.CellLaws.{enter_full, enter_made}
 use Rattle.boxes.proofs.enter_field.Goals as goal
 
 pub returns-then-cells-ge-MOST_CELLS : goal.returns-then-cells-ge-MOST_CELLS
-returns-then-cells-ge-MOST_CELLS c = enter_full _ _ _ _ _ c.requires (omega arith)
+returns-then-cells-ge-MOST_CELLS c = enter_full _ _ _ _ _ c.args.stores.now.fits (omega arith) _
 
 pub returns : goal.returns
-returns c = enter_made _ _ _ _ _ c.requires _ (omega arith) c.put_slot.ensures
+returns c = enter_made _ _ _ _ _ c.args.stores.now.fits _ (omega arith) c.put_slot.ensures _

@@ -1,14 +1,14 @@
 -- `store_owned`, `store_head` and `store_past`.
 use Rattle.boxes.proofs.CellLaws.{store_owned, store_head, store_past}
 use Rattle.boxes.proofs.store_cell.Goals as goal
-use Rattle.boxes.proofs.store_cell.Goals.{else-i-run-via-then-i-run+else-words-i-ne0, else-i-run-via-else-i-run}
+use Rattle.boxes.proofs.store_cell.Goals.{else-i-stores-via-then-i-stores+else-stores-i-ne0, else-i-stores-via-else-i-stores}
 
-pub returns-then-words-i-ne0 : goal.returns-then-words-i-ne0
-returns-then-words-i-ne0 c = store_owned _ _ _ _ c.requires _ c.if-i-run.true c.if-words-i-ne0.true c.put_slot.ensures
+pub returns-then-stores-i-ne0 : goal.returns-then-stores-i-ne0
+returns-then-stores-i-ne0 c = store_owned _ _ _ _ c.args.stores.now.fits _ c.if-i-stores.true c.if-stores-i-ne0.true c.put_slot.ensures _
 
-pub returns-else-i-run : goal.returns-else-i-run
-returns-else-i-run c =
-    elim c.else-i-run.branch [
-      | else-i-run-via-then-i-run+else-words-i-ne0 w ↦ store_head _ _ _ _ c.requires w.if-i-run.true w.if-words-i-ne0.false
-      | else-i-run-via-else-i-run w ↦ store_past _ _ _ _ c.requires w.if-i-run.false
+pub returns-else-i-stores : goal.returns-else-i-stores
+returns-else-i-stores c =
+    elim c.else-i-stores.branch [
+      | else-i-stores-via-then-i-stores+else-stores-i-ne0 w ↦ store_head _ _ _ _ c.args.stores.now.fits w.if-i-stores.true w.if-stores-i-ne0.false _
+      | else-i-stores-via-else-i-stores w ↦ store_past _ _ _ _ c.args.stores.now.fits w.if-i-stores.false _
     ]

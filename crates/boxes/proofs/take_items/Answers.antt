@@ -4,14 +4,14 @@ use Rattle.boxes.proofs.ItemLaws.{take-full, take-made}
 use Rattle.boxes.proofs.take_items.Goals as goal
 
 pub returns-then-head-count-gt-MOST_CELLS : goal.returns-then-head-count-gt-MOST_CELLS
-returns-then-head-count-gt-MOST_CELLS c = take-full _ _ _ _ c.requires c.pending_since-count.ensures (omega arith)
+returns-then-head-count-gt-MOST_CELLS c = take-full _ _ _ _ c.args.stores.now.fits c.pending_since-count.ensures (omega arith) _
 
 pub returns : goal.returns
 returns c =
     take-made _ _ _ _
-    c.requires
+    c.args.stores.now.fits
     c.pending_since-count.ensures
-    _ _
+    _ _ _ _ _
     (omega arith)
     (rw c.put_head.ensures at c.copy_items.ensures)
     c.drop_pending.ensures
