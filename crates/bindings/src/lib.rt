@@ -33,7 +33,7 @@ pub fn look_up(words: &[u64], run: &[u64; 16], name: u16) -> Option<usize>
     last_of(words, name as u64, run[FLOOR] as usize, run[BOUND] as usize)
 }
 
-// The value of binding i; unit where there is none.
+// The value of binding i; unit where there is none, as the rules' `bound_at` has it.
 pub fn bound_at(words: &[u64], run: &[u64; 16], i: usize) -> Value
     requires { Fits run.now words.now }
     ensures { BoundAt result run.now words.now i }

@@ -16,7 +16,7 @@ use stores::pending::{drop_pending, pending_since};
 use stores::run::{CELLS, MOST_CELLS};
 use texts::same_part;
 
-// The count of a vec or tuple; 0 where the cell is no head.
+// The count of a vec or tuple; 0 where the cell is no head, as the rules' `count_in` has it.
 pub fn count_in(words: &[u64], run: &[u64; 16], owner: usize) -> u64
     requires { Fits run.now words.now }
     ensures { CountIn result run.now words.now owner }
@@ -39,7 +39,7 @@ pub fn item_at(words: &[u64], run: &[u64; 16], owner: u32, index: u16) -> Option
     None
 }
 
-// The value of cell i; unit where it is none or a head.
+// The value of cell i; unit where it is none or a head, as the rules' `cell_at` has it.
 pub fn cell_at(words: &[u64], run: &[u64; 16], i: usize) -> Value
     requires { Fits run.now words.now }
     ensures { CellAt result run.now words.now i }
