@@ -45,7 +45,7 @@ pub fn look_up(stores: &Stores, name: u16) -> Option<usize>
     bound_from(stores, name, stores.run.floor)
 }
 
-// The value of binding i; unit where there is none.
+// The value of binding i; unit where there is none, as the rules' `bound_at` has it.
 pub fn bound_at(stores: &Stores, i: usize) -> Value
     ensures { BoundAt result stores.now.run stores.now.words.now i }
 {

@@ -16,7 +16,7 @@ use stores::pending::{drop_pending, pending_since};
 use stores::run::MOST_CELLS;
 use texts::same_part;
 
-// The count of a vec or tuple; 0 where the cell is no head.
+// The count of a vec or tuple; 0 where the cell is no head, as the rules' `count_in` has it.
 pub fn count_in(stores: &Stores, owner: usize) -> u64
     ensures { CountIn result stores.now.run stores.now.words.now owner }
 {
@@ -37,7 +37,7 @@ pub fn item_at(stores: &Stores, owner: u32, index: u16) -> Option<usize>
     None
 }
 
-// The value of cell i; unit where it is none or a head.
+// The value of cell i; unit where it is none or a head, as the rules' `cell_at` has it.
 pub fn cell_at(stores: &Stores, i: usize) -> Value
     ensures { CellAt result stores.now.run stores.now.words.now i }
 {

@@ -57,13 +57,13 @@ module _ (first from : ℕ) (σ : Store) where
     where
       go : (b : Bool) → ltb most_bindings bindings ≡ b → cond b none (some within) ≡ none → most_bindings < bindings
       go true over e = ltb-true most_bindings bindings over
-      go false over e = let z : ◌≡◌ {A = ℕ} 0 1 = cc in absurd (omega arith)
+      go false over e = cc
 
   filled : {τ : Store} → arguments_bound first from σ ≡ some τ → (bindings ≤ most_bindings) × (within ≡ τ)
   filled {τ} e = go (ltb most_bindings bindings) refl e
     where
       go : (b : Bool) → ltb most_bindings bindings ≡ b → cond b none (some within) ≡ some τ → (bindings ≤ most_bindings) × (within ≡ τ)
-      go true room e = let z : ◌≡◌ {A = ℕ} 0 1 = cc in absurd (omega arith)
+      go true room e = cc
       go false room e = (ltb-false most_bindings bindings room, cc)
 
 -- ---- a call whose arguments are all there: `function` is what it names, and `count` are pending

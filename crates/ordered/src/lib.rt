@@ -33,7 +33,7 @@ pub fn count_entries(words: &[u64], run: &[u64; 16], owner: u32) -> u64
     count
 }
 
-// The key of cell i; 0 where it is no entry.
+// The key of cell i; 0 where it is no entry, as `key_in` has it of any cell.
 pub fn key_at(words: &[u64], run: &[u64; 16], i: usize) -> u64
     requires { Fits run.now words.now }
     ensures { KeyAt result run.now words.now i }
