@@ -49,7 +49,8 @@ pub fn cell_at(stores: &Stores, i: usize) -> Value
 
 // Another value for cell i, if it is an item or an entry.
 pub fn store_cell(stores: &mut Stores, i: usize, v: Value)
-    ensures { StoresBecame (λ σ. stored_at σ i v) stores.old stores.new }
+    ensures store { StoresBecame (λ σ. stored_at σ i v) stores.old stores.new }
+    ensures bytes { stores.new.bytes.now ≡ stores.old.bytes.now }
 {
     if i < stores.run.cells as usize && stores.words[1794 + 4 * i] % 4 != 0 {
         put_slot(stores.words, 1792 + 4 * i, v);
@@ -91,7 +92,8 @@ pub fn put_head(words: &mut [u64], i: usize, count: u64)
 
 // A new field of an object, in one cell; false where there is none left.
 pub fn enter_field(stores: &mut Stores, owner: u32, key: u64, v: Value) -> bool
-    ensures { StoresTried result (field_entered owner key v) stores.old stores.new }
+    ensures store { StoresTried result (field_entered owner key v) stores.old stores.new }
+    ensures bytes { stores.new.bytes.now ≡ stores.old.bytes.now }
 {
     let cells = stores.run.cells;
     if MOST_CELLS <= cells {
@@ -122,7 +124,8 @@ fn copy_items(words: &mut [u64], head: usize, from: usize, count: usize)
 // A vec or tuple of the pending items from `from` on, which are given back: its head is the first cell that was free. All its cells or, where there are not so
 // many left, none.
 pub fn take_items(stores: &mut Stores, from: u64) -> bool
-    ensures { StoresTried result (items_taken from) stores.old stores.new }
+    ensures store { StoresTried result (items_taken from) stores.old stores.new }
+    ensures bytes { stores.new.bytes.now ≡ stores.old.bytes.now }
 {
     let head = stores.run.cells;
     let count = pending_since(stores, from);

@@ -3,8 +3,8 @@ use native.Mathlib.Omega.{arith}
 use Rattle.boxes.proofs.CellLaws.{enter_full, enter_made}
 use Rattle.boxes.proofs.enter_field.Goals as goal
 
-pub returns-then-cells-ge-MOST_CELLS : goal.returns-then-cells-ge-MOST_CELLS
-returns-then-cells-ge-MOST_CELLS c = enter_full _ _ _ _ _ c.args.stores.now.fits (omega arith) _
+pub returns-then-cells-ge-MOST_CELLS-clause-store : goal.returns-then-cells-ge-MOST_CELLS-clause-store
+returns-then-cells-ge-MOST_CELLS-clause-store c = enter_full _ _ _ _ _ c.args.stores.now.fits (omega arith) _
 
-pub returns : goal.returns
-returns c = enter_made _ _ _ _ _ c.args.stores.now.fits _ (omega arith) c.put_slot.ensures _
+pub returns-clause-store : goal.returns-clause-store
+returns-clause-store c = enter_made _ _ _ _ _ c.args.stores.now.fits _ (omega arith) c.put_slot.ensures _
