@@ -24,14 +24,15 @@ use Rattle.rules.specs.Store.{Store, as_signed, as_float, as_text}
 use Rattle.rules.specs.Building.{Made, of_numbers, binary_of}
 use Rattle.rules.specs.Machine.{right_of}
 use Rattle.rules.proofs.Moves.{operation_made}
-use Rattle.stores.specs.Stores.{made_by, MakesText}
+use Rattle.stores.specs.Stores.{made_by, Makes, Fits}
 use Rattle.texts.specs.Text.{joined}
 use Rattle.outcomes.specs.declared.Outcome.{Outcome}
 use Rattle.outcomes.specs.declared.Outcome.TheVariants.{Done}
 use Rattle.outcomes.specs.Outcomes.{got_of}
 use Rattle.binary.specs.Binary.{not_const, got_of_numbers, text_pair, float_pair}
-use Rattle.outcomes.specs.Post.{AfterText}
+use Rattle.outcomes.specs.Post.{After}
 use Rattle.outcomes.proofs.Ways.{NoValue, after_past, made_post}
+use Rattle.stores.specs.declared.run.Run.{Run}
 
 -- ---- what a value is not
 
@@ -90,69 +91,62 @@ module _ (image : List ℕ) (h : Header) (n : ℕ) (σ : Store) where
 -- ---- what is made of both values; d is node n
 
 -- an operation that leaves the stores as they are
-unmoved : {run bytes : List ℕ} {f : Store → Made} {r : Result Value Refused} → ((σ : Store) → f σ ≡ made_by r σ) → MakesText r f run bytes run bytes
-unmoved e words fits =
-    record { did = e _; undone = λ e z. refl; kept = record { fits = fits; room = refl; takes = refl; rest = refl } }
+unmoved : {run : Run} {words bytes : List ℕ} {f : Store → Made} {r : Result Value Refused} → Fits run words → ((σ : Store) → f σ ≡ made_by r σ) → Makes r f run words bytes run words bytes
+unmoved fits e =
+    record { did = e _; undone = λ e z. refl; kept = record { fits = fits; room = refl; takes = refl } }
 
-module _ (image : List ℕ) (h : Header) (n : ℕ) (left right : Value) {run bytes : List ℕ} where
+module _ (image : List ℕ) (h : Header) (n : ℕ) (left right : Value) {run : Run} {words bytes : List ℕ} (fits : Fits run words) where
   -- a pair of another kind
-  pub no_signeds : {got : Result Value Refused} {run' bytes' : List ℕ} → as_signed left ≡ none → MakesText got (float_pair image h n left right) run bytes run' bytes'
-      → MakesText got (binary_of image h n left right) run bytes run' bytes'
+  pub no_signeds : {got : Result Value Refused} {run' : Run} {words' bytes' : List ℕ} → as_signed left ≡ none → Makes got (float_pair image h n left right) run words bytes run' words' bytes'
+      → Makes got (binary_of image h n left right) run words bytes run' words' bytes'
   unfolding binary_of
-  no_signeds s made words fits =
-      let m = made words fits in
+  no_signeds s m =
       record { did = rw s m.did; undone = m.undone; kept = m.kept }
 
-  pub no_floats : {got : Result Value Refused} {run' bytes' : List ℕ} → as_float left ≡ none → MakesText got (text_pair image h n left right) run bytes run' bytes'
-      → MakesText got (float_pair image h n left right) run bytes run' bytes'
-  no_floats s made words fits =
-      let m = made words fits in
+  pub no_floats : {got : Result Value Refused} {run' : Run} {words' bytes' : List ℕ} → as_float left ≡ none → Makes got (text_pair image h n left right) run words bytes run' words' bytes'
+      → Makes got (float_pair image h n left right) run words bytes run' words' bytes'
+  no_floats s m =
       record { did = rw s m.did; undone = m.undone; kept = m.kept }
 
-  pub no_texts : as_text left ≡ none → MakesText (Err (not_const n)) (text_pair image h n left right) run bytes run bytes
-  no_texts t = unmoved (λ σ. rw t)
+  pub no_texts : as_text left ≡ none → Makes (Err (not_const n)) (text_pair image h n left right) run words bytes run words bytes
+  no_texts t = unmoved fits (λ σ. rw t)
 
   -- a left operand whose right one is of another kind
-  pub signed_alone : {x : ℤ} → left ≡ Signed x → as_signed right ≡ none → MakesText (Err (not_const n)) (binary_of image h n left right) run bytes run bytes
+  pub signed_alone : {x : ℤ} → left ≡ Signed x → as_signed right ≡ none → Makes (Err (not_const n)) (binary_of image h n left right) run words bytes run words bytes
   unfolding binary_of
-  signed_alone l s = unmoved (λ σ. rw (l, s))
+  signed_alone l s = unmoved fits (λ σ. rw (l, s))
 
-  pub float_alone : {x : Float} → left ≡ VFloat x → as_float right ≡ none → MakesText (Err (not_const n)) (float_pair image h n left right) run bytes run bytes
-  float_alone l f = unmoved (λ σ. rw (l, f))
+  pub float_alone : {x : Float} → left ≡ VFloat x → as_float right ≡ none → Makes (Err (not_const n)) (float_pair image h n left right) run words bytes run words bytes
+  float_alone l f = unmoved fits (λ σ. rw (l, f))
 
   pub text_alone : {start len : ℕ} → left ≡ Text start len → as_text right ≡ none
-      → MakesText (Err (not_const n)) (text_pair image h n left right) run bytes run bytes
-  text_alone l t = unmoved (λ σ. rw (l, t))
+      → Makes (Err (not_const n)) (text_pair image h n left right) run words bytes run words bytes
+  text_alone l t = unmoved fits (λ σ. rw (l, t))
 
   -- both of one kind
   module _ (d : Node) (node : d ≡ node_at image h n) where
     pub signeds : {x y : ℤ} {r : Result Value Refused} → left ≡ Signed x → right ≡ Signed y → r ≡ got_of_numbers n d.b (binary_int_of d.op x y)
-        → MakesText r (binary_of image h n left right) run bytes run bytes
+        → Makes r (binary_of image h n left right) run words bytes run words bytes
     unfolding binary_of
-    signeds {x} {y} l r e = rw e (unmoved (λ σ. rw (l, r, node) (numbers_made image h n σ (binary_int_of (node_at image h n).op x y))))
+    signeds {x} {y} l r e = rw e (unmoved fits (λ σ. rw (l, r, node) (numbers_made image h n σ (binary_int_of (node_at image h n).op x y))))
 
     pub floats : {x y : Float} {r : Result Value Refused} → left ≡ VFloat x → right ≡ VFloat y → r ≡ got_of_numbers n d.b (binary_float_of d.op x y)
-        → MakesText r (float_pair image h n left right) run bytes run bytes
-    floats {x} {y} l r e = rw e (unmoved (λ σ. rw (l, r, node) (numbers_made image h n σ (binary_float_of (node_at image h n).op x y))))
+        → Makes r (float_pair image h n left right) run words bytes run words bytes
+    floats {x} {y} l r e = rw e (unmoved fits (λ σ. rw (l, r, node) (numbers_made image h n σ (binary_float_of (node_at image h n).op x y))))
 
     module _ {start len start' len' : ℕ} (l : left ≡ Text start len) (r : right ≡ Text start' len') where
-      pub no_join : (d.op ≡ 0 → ⊥) → MakesText (Err (not_const n)) (text_pair image h n left right) run bytes run bytes
-      no_join op = unmoved (λ σ. rw (l, r, ne_eqb _ _ (rw node at op)))
+      pub no_join : (d.op ≡ 0 → ⊥) → Makes (Err (not_const n)) (text_pair image h n left right) run words bytes run words bytes
+      no_join op = unmoved fits (λ σ. rw (l, r, ne_eqb _ _ (rw node at op)))
 
       -- one that builds text
-      pub joins : {got : Result Value Refused} {run' bytes' : List ℕ} → d.op ≡ 0 → MakesText got (joined image h n start len start' len') run bytes run' bytes'
-          → MakesText got (text_pair image h n left right) run bytes run' bytes'
-      joins op made words fits =
-          let m = made words fits in
+      pub joins : {got : Result Value Refused} {run' : Run} {words' bytes' : List ℕ} → d.op ≡ 0 → Makes got (joined image h n start len start' len') run words bytes run' words' bytes'
+          → Makes got (text_pair image h n left right) run words bytes run' words' bytes'
+      joins op m =
           record { did = rw (l, r, eq-eqb _ _ (rw node at op)) m.did; undone = m.undone; kept = m.kept }
 
 -- ---- after the right operand
 
-pub operated : {image : List ℕ} {h : Header} {n : ℕ} {left right : Value} {one r : Outcome} {got : Result Value Refused} {run bytes run' bytes' : List ℕ}
-    → one ≡ Done right → MakesText got (binary_of image h n left right) run bytes run' bytes' → got_of got ≡ r
-    → AfterText image h (right_of n left ∷ []) one run bytes run' bytes' r
-operated e made z words fits = rw (e, ← z) (record { ways = made_post (λ K. operation_made refl) (made words fits) })
-
-pub operand_out : {image : List ℕ} {h : Header} {n : ℕ} {left : Value} {run bytes : List ℕ} (one : Outcome) → NoValue one
-    → AfterText image h (right_of n left ∷ []) one run bytes run bytes one
-operand_out one out words fits = after_past _ one refl out fits
+pub operated : {image : List ℕ} {h : Header} {n : ℕ} {left right : Value} {one r : Outcome} {got : Result Value Refused} {run : Run} {words bytes : List ℕ} {run' : Run} {words' bytes' : List ℕ}
+    → one ≡ Done right → Makes got (binary_of image h n left right) run words bytes run' words' bytes' → got_of got ≡ r
+    → After image h (right_of n left ∷ []) one run words bytes run' words' bytes' r
+operated e made z = rw (e, ← z) (record { ways = made_post (λ K. operation_made refl) made })

@@ -1,18 +1,19 @@
 // The operation of a binary node, once both operands are there.
 #![tactic(auto)]
 
-ghost use Rattle.std.specs.Prelude.{◌≡◌, [], ◌∷◌, ◌≤◌, length};
+ghost use Rattle.std.specs.Prelude.{◌≡◌, [], ◌∷◌};
 ghost use Rattle.rules.specs.Building.{binary_of};
 ghost use Rattle.rules.specs.Machine.{Frame};
-ghost use Rattle.stores.specs.Stores.{text_of, MakesText};
+ghost use Rattle.stores.specs.Lent.{StoresMade};
 ghost use Rattle.outcomes.specs.Outcomes.{IsNode};
 ghost use Rattle.binary.specs.Binary.{place_of, not_const, got_of_numbers, text_pair, float_pair};
-ghost use Rattle.outcomes.specs.Post.{AfterText};
+ghost use Rattle.outcomes.specs.Lent.{StoresAfter};
 
 use numbers::{ArithRefusal, Number, OpError, binary_float, binary_int};
 use outcomes::Outcome;
-use packed::layout::{Header, node_at};
+use packed::image::Image;
 use rules::{Refusal, Refused, Value};
+use stores::lent::Stores;
 use texts::join;
 
 // "16, 17: binary; 18: right operand"
@@ -52,16 +53,15 @@ fn not_const(n: u16) -> Refused
 
 // "both text, + joins. Anything else is 12".
 fn text_pair(
-    image: &[u8],
-    h: Header,
-    bytes: &mut [u8],
-    run: &mut [u64; 16],
+    image: &Image,
+    stores: &mut Stores,
     n: u16,
     left: Value,
     right: Value,
 ) -> Result<Value, Refused>
-    requires { IsNode image.now h n × (length bytes.old ≡ 16384) × (length run.old ≡ 16) × (text_of run.old ≤ 16384) }
-    ensures { MakesText result (text_pair image.now h n left right) run.old bytes.old run.new bytes.new }
+    requires { IsNode image.now.bytes.now image.now.header n }
+    ensures store { StoresMade result (text_pair image.now.bytes.now image.now.header n left right) stores.old stores.new }
+    ensures words { stores.new.words.now ≡ stores.old.words.now }
 {
     let Value::Text(start, len) = left else {
         return Err(not_const(n));
@@ -69,74 +69,71 @@ fn text_pair(
     let Value::Text(start2, len2) = right else {
         return Err(not_const(n));
     };
-    let node = node_at(image, h, n as usize);
+    let node = image.node(n as usize);
     if node.op != 0 {
         return Err(not_const(n));
     }
-    join(image, h, bytes, run, n, start, len, start2, len2)
+    join(image, stores, n, start, len, start2, len2)
 }
 
 // "if both are float, all but shifts".
 fn float_pair(
-    image: &[u8],
-    h: Header,
-    bytes: &mut [u8],
-    run: &mut [u64; 16],
+    image: &Image,
+    stores: &mut Stores,
     n: u16,
     left: Value,
     right: Value,
 ) -> Result<Value, Refused>
-    requires { IsNode image.now h n × (length bytes.old ≡ 16384) × (length run.old ≡ 16) × (text_of run.old ≤ 16384) }
-    ensures { MakesText result (float_pair image.now h n left right) run.old bytes.old run.new bytes.new }
+    requires { IsNode image.now.bytes.now image.now.header n }
+    ensures store { StoresMade result (float_pair image.now.bytes.now image.now.header n left right) stores.old stores.new }
+    ensures words { stores.new.words.now ≡ stores.old.words.now }
 {
     let Value::Float(x) = left else {
-        return text_pair(image, h, bytes, run, n, left, right);
+        return text_pair(image, stores, n, left, right);
     };
     let Value::Float(y) = right else {
         return Err(not_const(n));
     };
-    let node = node_at(image, h, n as usize);
+    let node = image.node(n as usize);
     of_numbers(n, node.b, binary_float(node.op, x, y))
 }
 
 // The operation of node n on both values: "If both operands are signed, all ops".
 fn binary_of(
-    image: &[u8],
-    h: Header,
-    bytes: &mut [u8],
-    run: &mut [u64; 16],
+    image: &Image,
+    stores: &mut Stores,
     n: u16,
     left: Value,
     right: Value,
 ) -> Result<Value, Refused>
-    requires { IsNode image.now h n × (length bytes.old ≡ 16384) × (length run.old ≡ 16) × (text_of run.old ≤ 16384) }
-    ensures { MakesText result (binary_of image.now h n left right) run.old bytes.old run.new bytes.new }
+    requires { IsNode image.now.bytes.now image.now.header n }
+    ensures store { StoresMade result (binary_of image.now.bytes.now image.now.header n left right) stores.old stores.new }
+    ensures words { stores.new.words.now ≡ stores.old.words.now }
 {
     let Value::Signed(x) = left else {
-        return float_pair(image, h, bytes, run, n, left, right);
+        return float_pair(image, stores, n, left, right);
     };
     let Value::Signed(y) = right else {
         return Err(not_const(n));
     };
-    let node = node_at(image, h, n as usize);
+    let node = image.node(n as usize);
     of_numbers(n, node.b, binary_int(node.op, x, y))
 }
 
 // After the right operand of node n.
 pub fn finish_binary(
-    image: &[u8],
-    h: Header,
-    bytes: &mut [u8],
-    run: &mut [u64; 16],
+    image: &Image,
+    stores: &mut Stores,
     n: u16,
     left: Value,
     one: Outcome,
 ) -> Outcome
-    requires { IsNode image.now h n × (length bytes.old ≡ 16384) × (length run.old ≡ 16) × (text_of run.old ≤ 16384) }
-    ensures { AfterText image.now h (Frame.right_of n left ∷ []) one run.old bytes.old run.new bytes.new result }
+    requires { IsNode image.now.bytes.now image.now.header n }
+    ensures store { StoresAfter image.now.bytes.now image.now.header (Frame.right_of n left ∷ []) one stores.old stores.new result }
+    ensures words { stores.new.words.now ≡ stores.old.words.now }
 {
     let Outcome::Done(right) = one else {
         return one;
     };
-    Outcome::from(binary_of(image, h, bytes, run, n, left, right))
+    Outcome::from(binary_of(image, stores, n, left, right))
 }

@@ -26,8 +26,9 @@ use Rattle.outcomes.specs.declared.Outcome.TheVariants.{Done, Refused}
 use Rattle.outcomes.specs.Post.{Gives}
 use Rattle.outcomes.specs.Outcomes.{got_of}
 use Rattle.outcomes.proofs.Ways.{ended, refused}
+use Rattle.stores.specs.declared.run.Run.{Run}
 
-module _ {image : List ℕ} {h : Header} {n : ℕ} (d : ℕ) {run words : List ℕ} (fits : Fits run words) where
+module _ {image : List ℕ} {h : Header} {n : ℕ} (d : ℕ) {run : Run} {words : List ℕ} (fits : Fits run words) where
   -- ---- names
 
   module _ (is : IsKind 7 image h n) (node : Node) (e : node ≡ node_at image h n) where

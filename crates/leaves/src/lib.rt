@@ -2,61 +2,40 @@
 #![tactic(auto)]
 
 ghost use Rattle.rules.specs.Machine.{Ctl};
-ghost use Rattle.stores.specs.Stores.{Fits};
 ghost use Rattle.building.specs.Making.{IsKind};
 ghost use Rattle.outcomes.specs.Post.{Gives};
 
 use bindings::{bound_at, look_up};
 use outcomes::Outcome;
-use packed::layout::{Header, node_at};
+use packed::image::Image;
 use rules::Refusal;
 use slots::literals::literal_value;
+use stores::lent::Stores;
 use targets::get_target;
 
-pub fn eval_name(
-    image: &[u8],
-    h: Header,
-    words: &[u64],
-    run: &[u64; 16],
-    n: u16,
-    depth: u16,
-) -> Outcome
-    requires { IsKind 7 image.now h n × Fits run.now words.now }
-    ensures { Gives image.now h (Ctl.work n depth) run.now words.now result }
+pub fn eval_name(image: &Image, stores: &Stores, n: u16, depth: u16) -> Outcome
+    requires { IsKind 7 image.now.bytes.now image.now.header n }
+    ensures { Gives image.now.bytes.now image.now.header (Ctl.work n depth) stores.now.run stores.now.words.now result }
 {
-    let node = node_at(image, h, n as usize);
-    match look_up(words, run, node.tag) {
-        Some(i) => Outcome::Done(bound_at(words, run, i)),
+    let node = image.node(n as usize);
+    match look_up(stores, node.tag) {
+        Some(i) => Outcome::Done(bound_at(stores, i)),
         None => Outcome::Refused(Refusal::MissingName, n),
     }
 }
 
-pub fn eval_read(
-    image: &[u8],
-    h: Header,
-    words: &[u64],
-    run: &[u64; 16],
-    n: u16,
-    depth: u16,
-) -> Outcome
-    requires { IsKind 8 image.now h n × Fits run.now words.now }
-    ensures { Gives image.now h (Ctl.work n depth) run.now words.now result }
+pub fn eval_read(image: &Image, stores: &Stores, n: u16, depth: u16) -> Outcome
+    requires { IsKind 8 image.now.bytes.now image.now.header n }
+    ensures { Gives image.now.bytes.now image.now.header (Ctl.work n depth) stores.now.run stores.now.words.now result }
 {
-    let node = node_at(image, h, n as usize);
-    Outcome::from(get_target(image, h, words, run, node.a))
+    let node = image.node(n as usize);
+    Outcome::from(get_target(image, stores, node.a))
 }
 
-pub fn eval_value(
-    image: &[u8],
-    h: Header,
-    words: &[u64],
-    run: &[u64; 16],
-    n: u16,
-    depth: u16,
-) -> Outcome
-    requires { IsKind 9 image.now h n × Fits run.now words.now }
-    ensures { Gives image.now h (Ctl.work n depth) run.now words.now result }
+pub fn eval_value(image: &Image, stores: &Stores, n: u16, depth: u16) -> Outcome
+    requires { IsKind 9 image.now.bytes.now image.now.header n }
+    ensures { Gives image.now.bytes.now image.now.header (Ctl.work n depth) stores.now.run stores.now.words.now result }
 {
-    let node = node_at(image, h, n as usize);
-    Outcome::Done(literal_value(image, h, node.a))
+    let node = image.node(n as usize);
+    Outcome::Done(literal_value(image, node.a))
 }

@@ -18,15 +18,16 @@ use Rattle.rules.specs.Machine.{Kind, other, kinds, kind_of, ret, Frame, let_of}
 use Rattle.rules.proofs.Going.{stay}
 use Rattle.rules.proofs.Moves.{decl_bound, set-wrote, assign_wrote, let_ignored, let_bound}
 use Rattle.rules.proofs.BreakMoves.{break_valued}
-use Rattle.stores.specs.Stores.{Fits, TriedWords}
-use Rattle.targets.specs.Reading.{WritesWords}
+use Rattle.stores.specs.Stores.{Fits, Tried}
+use Rattle.targets.specs.Reading.{Writes}
 use Rattle.outcomes.specs.declared.Outcome.{Outcome}
 use Rattle.outcomes.specs.declared.Outcome.TheVariants.{Done, Broke}
-use Rattle.outcomes.specs.Post.{PostWords, AfterWords}
+use Rattle.outcomes.specs.Post.{Post, After}
 use Rattle.outcomes.specs.Outcomes.{IsNode, written_of, bound_of}
 use Rattle.operands.specs.Waiting.{waiting, operand_of}
 use Rattle.outcomes.proofs.KindLaws.{passes_at, every_kind}
-use Rattle.outcomes.proofs.Ways.{NoValue, all_pass, after_past, ended, wrote_post, bound_post}
+use Rattle.outcomes.proofs.Ways.{all_pass, ended, wrote_post, bound_post}
+use Rattle.stores.specs.declared.run.Run.{Run}
 
 -- ---- which kinds wait for an operand
 
@@ -72,44 +73,40 @@ module _ (image : List ℕ) (h : Header) (n : ℕ) (d : Node) (node : d ≡ node
   waits : {fs : List Frame} {kind : ℕ} → d.kind ≡ kind → waiting (kind_of kind) n ≡ fs → waiting (kind_of (node_at image h n).kind) n ≡ fs
   waits k e = rw (rw node at k) e
 
-  module _ {v : Value} {run words run' words' : List ℕ} {r : Outcome} where
-    pub decl_done : {kept : Bool} → d.kind ≡ 3 → TriedWords kept (λ σ. declared σ d.tag v) run words run' words' → r ≡ bound_of kept n VUnit
-        → PostWords image h (ret v) (waiting (kind_of (node_at image h n).kind) n) run words run' words' r
+  module _ {v : Value} {run : Run} {words bytes : List ℕ} {run' : Run} {words' bytes' : List ℕ} {r : Outcome} where
+    pub decl_done : {kept : Bool} → d.kind ≡ 3 → Tried kept (λ σ. declared σ d.tag v) run words bytes run' words' bytes' → r ≡ bound_of kept n VUnit
+        → Post image h (ret v) (waiting (kind_of (node_at image h n).kind) n) run words bytes run' words' bytes' r
     unfolding kind_of kinds
-    decl_done k tried e bytes = rw (e, waits k refl) (bound_post n VUnit (λ K. decl_bound refl) ((rw node at tried) bytes))
+    decl_done k tried e = rw (e, waits k refl) (bound_post n VUnit (λ K. decl_bound refl) (rw node at tried))
 
-    pub set-done : {w : Result (Unit {0}) Refused} → d.kind ≡ 4 → WritesWords w (λ σ. target_set image h σ d.a v) run words run' words' → r ≡ written_of w
-        → PostWords image h (ret v) (waiting (kind_of (node_at image h n).kind) n) run words run' words' r
+    pub set-done : {w : Result (Unit {0}) Refused} → d.kind ≡ 4 → Writes w (λ σ. target_set image h σ d.a v) run words bytes run' words' bytes' → r ≡ written_of w
+        → Post image h (ret v) (waiting (kind_of (node_at image h n).kind) n) run words bytes run' words' bytes' r
     unfolding kind_of kinds
-    set-done k wrote e bytes = rw (e, waits k refl) (wrote_post (λ K. set-wrote refl) ((rw node at wrote) bytes))
+    set-done k wrote e = rw (e, waits k refl) (wrote_post (λ K. set-wrote refl) (rw node at wrote))
 
-    pub assign_done : {w : Result (Unit {0}) Refused} → d.kind ≡ 5 → WritesWords w (λ σ. target_assigned image h σ n d.op d.a v) run words run' words' → r ≡ written_of w
-        → PostWords image h (ret v) (waiting (kind_of (node_at image h n).kind) n) run words run' words' r
+    pub assign_done : {w : Result (Unit {0}) Refused} → d.kind ≡ 5 → Writes w (λ σ. target_assigned image h σ n d.op d.a v) run words bytes run' words' bytes' → r ≡ written_of w
+        → Post image h (ret v) (waiting (kind_of (node_at image h n).kind) n) run words bytes run' words' bytes' r
     unfolding kind_of kinds
-    assign_done k wrote e bytes = rw (e, waits k refl) (wrote_post (λ K. assign_wrote refl) ((rw node at wrote) bytes))
+    assign_done k wrote e = rw (e, waits k refl) (wrote_post (λ K. assign_wrote refl) (rw node at wrote))
 
-    pub let_done : {kept : Bool} → (d.op ≡ 0 → ⊥) → TriedWords kept (λ σ. declared σ d.tag v) run words run' words' → r ≡ bound_of kept n (VBool true)
-        → PostWords image h (ret v) (let_of n ∷ []) run words run' words' r
-    let_done op tried e bytes = rw e (bound_post n (VBool true) (λ K. let_bound (rw node at op) refl) ((rw node at tried) bytes))
+    pub let_done : {kept : Bool} → (d.op ≡ 0 → ⊥) → Tried kept (λ σ. declared σ d.tag v) run words bytes run' words' bytes' → r ≡ bound_of kept n (VBool true)
+        → Post image h (ret v) (let_of n ∷ []) run words bytes run' words' bytes' r
+    let_done op tried e = rw e (bound_post n (VBool true) (λ K. let_bound (rw node at op) refl) (rw node at tried))
 
-  module _ {v : Value} {run words : List ℕ} (fits : Fits run words) where
-    pub break_done : d.kind ≡ 12 → IsNode image h n → PostWords image h (ret v) (waiting (kind_of (node_at image h n).kind) n) run words run words (Broke n v)
+  module _ {v : Value} {run : Run} {words bytes : List ℕ} (fits : Fits run words) where
+    pub break_done : d.kind ≡ 12 → IsNode image h n → Post image h (ret v) (waiting (kind_of (node_at image h n).kind) n) run words bytes run words bytes (Broke n v)
     unfolding kind_of kinds
-    break_done k is bytes =
+    break_done k is =
         rw (waits k refl) (record { ways = (record { path = λ K. break_valued }, is.first, is.last); fits = fits; room = refl })
 
-    pub idle_done : Idle d.kind → PostWords image h (ret v) (waiting (kind_of (node_at image h n).kind) n) run words run words (Done v)
-    idle_done idle bytes = rw (no_frame (node_at image h n).kind n (rw node at idle)) (ended (λ K. stay) fits refl)
+    pub idle_done : Idle d.kind → Post image h (ret v) (waiting (kind_of (node_at image h n).kind) n) run words bytes run words bytes (Done v)
+    idle_done idle = rw (no_frame (node_at image h n).kind n (rw node at idle)) (ended (λ K. stay) fits refl)
 
-    pub let_holds : d.op ≡ 0 → PostWords image h (ret v) (let_of n ∷ []) run words run words (Done (VBool true))
-    let_holds op bytes = ended (λ K. let_ignored (rw node at op)) fits refl
+    pub let_holds : d.op ≡ 0 → Post image h (ret v) (let_of n ∷ []) run words bytes run words bytes (Done (VBool true))
+    let_holds op = ended (λ K. let_ignored (rw node at op)) fits refl
 
 -- ---- an outcome that is a value, and one that is none
 
-pub after_value : {image : List ℕ} {h : Header} {fs : List Frame} {one r : Outcome} {v : Value} {run words run' words' : List ℕ} → one ≡ Done v
-    → PostWords image h (ret v) fs run words run' words' r → AfterWords image h fs one run words run' words' r
-after_value e post bytes = rw e (record { ways = post bytes })
-
-pub after_none : {image : List ℕ} {h : Header} {run words : List ℕ} (fs : List Frame) (one : Outcome) → all_pass fs ≡ true → NoValue one → Fits run words
-    → AfterWords image h fs one run words run words one
-after_none fs one pass none fits bytes = after_past fs one pass none fits
+pub after_value : {image : List ℕ} {h : Header} {fs : List Frame} {one r : Outcome} {v : Value} {run : Run} {words bytes : List ℕ} {run' : Run} {words' bytes' : List ℕ} → one ≡ Done v
+    → Post image h (ret v) fs run words bytes run' words' bytes' r → After image h fs one run words bytes run' words' bytes' r
+after_value e post = rw e (record { ways = post })

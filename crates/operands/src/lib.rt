@@ -4,15 +4,16 @@
 ghost use Rattle.std.specs.Prelude.{◌≡◌, [], ◌∷◌};
 ghost use Rattle.packed.specs.Layout.{node_at};
 ghost use Rattle.rules.specs.Machine.{Ctl, Frame, kind_of};
-ghost use Rattle.stores.specs.Stores.{Fits};
-ghost use Rattle.outcomes.specs.Post.{PostWords, AfterWords};
+ghost use Rattle.outcomes.specs.Lent.{StoresPost, StoresAfter};
 ghost use Rattle.operands.specs.Waiting.{waiting, operand_of};
 ghost use Rattle.outcomes.specs.Outcomes.{IsNode, written_of, bound_of};
 
 use bindings::declare;
 use outcomes::Outcome;
-use packed::layout::{Header, Node, node_at};
+use packed::image::Image;
+use packed::layout::Node;
 use rules::{Refusal, Refused, Value};
+use stores::lent::Stores;
 use targets::{assign_target, set_target};
 
 // The operand's node.
@@ -45,63 +46,45 @@ fn bound(kept: bool, n: u16, v: Value) -> Outcome
     Outcome::Refused(Refusal::Bindings, n)
 }
 
-fn use_operand(
-    image: &[u8],
-    h: Header,
-    words: &mut [u64],
-    run: &mut [u64; 16],
-    n: u16,
-    v: Value,
-) -> Outcome
-    requires { IsNode image.now h n × Fits run.old words.old }
-    ensures { PostWords image.now h (Ctl.ret v) (waiting (kind_of (node_at image.now h n).kind) n) run.old words.old run.new words.new result }
+fn use_operand(image: &Image, stores: &mut Stores, n: u16, v: Value) -> Outcome
+    requires { IsNode image.now.bytes.now image.now.header n }
+    ensures store { StoresPost image.now.bytes.now image.now.header (Ctl.ret v) (waiting (kind_of (node_at image.now.bytes.now image.now.header n).kind) n) stores.old stores.new result }
+    ensures bytes { stores.new.bytes.now ≡ stores.old.bytes.now }
 {
-    let node = node_at(image, h, n as usize);
+    let node = image.node(n as usize);
     match node.kind {
-        3 => bound(declare(words, run, node.tag, v), n, Value::Unit),
-        4 => written(set_target(image, h, words, run, node.a, v)),
-        5 => written(assign_target(image, h, words, run, n, node.op, node.a, v)),
+        3 => bound(declare(stores, node.tag, v), n, Value::Unit),
+        4 => written(set_target(image, stores, node.a, v)),
+        5 => written(assign_target(image, stores, n, node.op, node.a, v)),
         12 => Outcome::Broke(n, v),
         _ => Outcome::Done(v),
     }
 }
 
 // After the operand of node n.
-pub fn finish_operand(
-    image: &[u8],
-    h: Header,
-    words: &mut [u64],
-    run: &mut [u64; 16],
-    n: u16,
-    one: Outcome,
-) -> Outcome
-    requires { IsNode image.now h n × Fits run.old words.old }
-    ensures { AfterWords image.now h (waiting (kind_of (node_at image.now h n).kind) n) one run.old words.old run.new words.new result }
+pub fn finish_operand(image: &Image, stores: &mut Stores, n: u16, one: Outcome) -> Outcome
+    requires { IsNode image.now.bytes.now image.now.header n }
+    ensures store { StoresAfter image.now.bytes.now image.now.header (waiting (kind_of (node_at image.now.bytes.now image.now.header n).kind) n) one stores.old stores.new result }
+    ensures bytes { stores.new.bytes.now ≡ stores.old.bytes.now }
 {
     match one {
-        Outcome::Done(v) => use_operand(image, h, words, run, n, v),
+        Outcome::Done(v) => use_operand(image, stores, n, v),
         _ => one,
     }
 }
 
 // After the value of let condition c, which "always holds".
-pub fn finish_let(
-    image: &[u8],
-    h: Header,
-    words: &mut [u64],
-    run: &mut [u64; 16],
-    c: u16,
-    one: Outcome,
-) -> Outcome
-    requires { IsNode image.now h c × Fits run.old words.old }
-    ensures { AfterWords image.now h (Frame.let_of c ∷ []) one run.old words.old run.new words.new result }
+pub fn finish_let(image: &Image, stores: &mut Stores, c: u16, one: Outcome) -> Outcome
+    requires { IsNode image.now.bytes.now image.now.header c }
+    ensures store { StoresAfter image.now.bytes.now image.now.header (Frame.let_of c ∷ []) one stores.old stores.new result }
+    ensures bytes { stores.new.bytes.now ≡ stores.old.bytes.now }
 {
     let Outcome::Done(v) = one else {
         return one;
     };
-    let node = node_at(image, h, c as usize);
+    let node = image.node(c as usize);
     if node.op == 0 {
         return Outcome::Done(Value::Bool(true));
     }
-    bound(declare(words, run, node.tag, v), c, Value::Bool(true))
+    bound(declare(stores, node.tag, v), c, Value::Bool(true))
 }

@@ -22,8 +22,8 @@ use Rattle.outcomes.specs.Outcomes.{IsNode}
 
 module _ {image : List ℕ} {h : Header} {n : ℕ} (is : IsNode image h n) where
   -- what reading it asks
-  pub node_there : (1 ≤ n) × (n ≤ h.nodes) × (size_of h ≤ length image)
-  node_there = (is.first, is.last, size_right image h is.loaded)
+  pub node_there : (1 ≤ n) × (n ≤ h.nodes)
+  node_there = (is.first, is.last)
 
   -- kinds 4 and 5: "a target"
   writes_to : ((node_at image h n).kind ≡ 4) ⊎ ((node_at image h n).kind ≡ 5) → IsTarget image h (node_at image h n).a

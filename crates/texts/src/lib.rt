@@ -166,7 +166,8 @@ pub fn join(
     start2: u32,
     len2: u16,
 ) -> Result<Value, Refused>
-    ensures { StoresMade result (joined image.now.bytes.now image.now.header n start len start2 len2) stores.old stores.new }
+    ensures store { StoresMade result (joined image.now.bytes.now image.now.header n start len start2 len2) stores.old stores.new }
+    ensures words { stores.new.words.now ≡ stores.old.words.now }
 {
     let no_room = Refused {
         why: Refusal::TextBytes,

@@ -1,10 +1,11 @@
--- `operated`, `operand_out`.
-use mathlib.Core.Path.{sym}
-use Rattle.binary.proofs.BinaryLaws.{operated, operand_out}
+-- `operated`, `after_past`.
+use mathlib.Core.Path.{refl, sym}
+use Rattle.binary.proofs.BinaryLaws.{operated}
+use Rattle.outcomes.proofs.Ways.{after_past}
 use Rattle.binary.proofs.finish_binary.Goals as goal
 
-pub returns-in_default : goal.returns-in_default
-returns-in_default c = operand_out c.args.one c.in_default.not-Done
+pub returns-in_default-clause-store : goal.returns-in_default-clause-store
+returns-in_default-clause-store c = after_past _ c.args.one refl c.in_default.not-Done c.args.stores.now.fits
 
-pub returns : goal.returns
-returns c = operated c.in-Done.is c.binary_of.ensures (sym c.from.ensures)
+pub returns-clause-store : goal.returns-clause-store
+returns-clause-store c = operated c.in-Done.is c.binary_of.ensures.store (sym c.from.ensures)

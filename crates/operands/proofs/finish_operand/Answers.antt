@@ -1,6 +1,7 @@
--- `after_none`.
-use Rattle.operands.proofs.OperandLaws.{waiting_passes, after_none}
+-- `after_past`.
+use Rattle.operands.proofs.OperandLaws.{waiting_passes}
+use Rattle.outcomes.proofs.Ways.{after_past}
 use Rattle.operands.proofs.finish_operand.Goals as goal
 
-pub returns-in_default : goal.returns-in_default
-returns-in_default c = after_none _ c.args.one (waiting_passes _ _) c.in_default.not-Done c.requires.1
+pub returns-in_default-clause-store : goal.returns-in_default-clause-store
+returns-in_default-clause-store c = after_past _ c.args.one (waiting_passes _ _) c.in_default.not-Done c.args.stores.now.fits

@@ -8,8 +8,8 @@ use Rattle.texts.proofs.OkOr.{some_of, none_of, error_of}
 use Rattle.texts.proofs.Joins.{join_none, join_not, join_all}
 use Rattle.texts.proofs.join.Goals as goal
 
-pub returns-in_err-middle : goal.returns-in_err-middle
-returns-in_err-middle c =
+pub returns-in_err-middle-clause-store : goal.returns-in_err-middle-clause-store
+returns-in_err-middle-clause-store c =
     let a = c.args in
     let p = err_from_is_err_and c.from_residual.result c.from_residual.ensures.1 in
     let given = c.ok_or.ensures.value in
@@ -22,8 +22,8 @@ put_text-requires-2 c =
     let first = ended c.args.stores.now.bytes.now _ _ (some_of _ _ c.ok_or.ensures.value _ c.in_ok-middle.was ∙ c.put_text.ensures.end) in
     omega arith
 
-pub returns-in_err-end : goal.returns-in_err-end
-returns-in_err-end c =
+pub returns-in_err-end-clause-store : goal.returns-in_err-end-clause-store
+returns-in_err-end-clause-store c =
     let a = c.args in
     let p = err_from_is_err_and c.from_residual-in_err-end.result c.from_residual-in_err-end.ensures.1 in
     let given = c.ok_or-2.ensures.value in
@@ -43,8 +43,8 @@ overflow_cast-result-3 c =
     let second = ended c.put_text.new.bytes _ _ (some_of _ _ c.ok_or-2.ensures.value _ c.in_ok-end.was ∙ c.put_text-2.ensures.end) in
     omega (arith, c.put_text.auto.bytes, c.args.stores.now.room)
 
-pub returns : goal.returns
-returns c =
+pub returns-clause-store : goal.returns-clause-store
+returns-clause-store c =
     let a = c.args in
     join_all a.image.now.bytes.now a.image.now.header a.n a.start a.len a.start2 a.len2 a.stores.now.run a.stores.now.bytes.now a.stores.now.room a.stores.now.fits.text
     _ c.put_text.ensures.bytes _ (some_of _ _ c.ok_or.ensures.value _ c.in_ok-middle.was ∙ c.put_text.ensures.end)

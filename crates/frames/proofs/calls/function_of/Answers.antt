@@ -6,4 +6,4 @@ pub node-node-requires : goal.node-node-requires
 node-node-requires c = node_there (as_node c.requires)
 
 pub function-requires : goal.function-requires
-function-requires c = (rw c.node-node.ensures (call_names c.requires), (node_there (as_node c.requires)).2)
+function-requires c = rw c.node-node.ensures (call_names c.requires)
