@@ -20,7 +20,7 @@ use Rattle.stores.proofs.Numbers.{fits_takes, takes_set}
 use Rattle.outcomes.specs.declared.Outcome.{Outcome}
 use Rattle.std.specs.declared.ops.ControlFlow.{ControlFlow}
 use Rattle.outcomes.specs.Post.{Starved}
-use Rattle.entering.specs.Entering.{Took, took, deep, spent, Entered}
+use Rattle.entering.specs.Entering.{HasEntered, Took, took, deep, spent}
 use Rattle.outcomes.proofs.KindLaws.{every_kind}
 use Rattle.stores.specs.declared.run.Run.{Run}
 use Rattle.stores.specs.Run.{set_takes}
@@ -112,30 +112,24 @@ module _ (image : List ℕ) (h : Header) where
 -- ---- what the takes leave: a number of the run that is no part of the store
 
 pub entered_by : {image : List ℕ} {h : Header} {t : Ctl} {n d takes : ℕ} {run run' : Run} {r : ControlFlow Outcome (Unit {0})}
-    → Entry image h t n d takes → Took n d takes run run' r → Entered image h t n d run run' r
-entered_by {takes = takes} {run = run} entry (took fits enough) =
+    → Entry image h t n d takes → Took n d takes run run' r → {words : List ℕ} (bytes : List ℕ) → Fits run words → HasEntered image h t n d run words bytes run' words bytes r
+entered_by {takes = takes} {run = run} entry (took fits enough) {words = words} bytes room =
     let x = takes_of run - takes in
     record {
-      advance = λ words bytes room.
-          record {
-            ways = record { path = λ K. rw (takes_set run words bytes x) (entry.way fits (takes_of run) enough K (store_of run words bytes)) };
-            fits = fits_takes run words x room;
-            room = refl;
-          };
+      advance = record {
+        ways = record { path = λ K. rw (takes_set run words bytes x) (entry.way fits (takes_of run) enough K (store_of run words bytes)) };
+        fits = fits_takes run words x room;
+        room = refl;
+      };
       shallow = λ e. fits;
     }
-entered_by entry (deep past) =
+entered_by entry (deep past) bytes room =
     record {
-      advance = λ words bytes room. record { ways = record { path = λ K. too_deep entry.enters past }; fits = room; room = refl };
-      shallow = λ e. cc;
+      advance = record { ways = record { path = λ K. too_deep entry.enters past }; fits = room; room = refl };
+      shallow = λ e. let z : ◌≡◌ {A = ℕ} 0 1 = cc in absurd (omega arith);
     }
-entered_by {run = run} entry (spent fits few) =
+entered_by {run = run} entry (spent fits few) {words = words} bytes room =
     record {
-      advance = λ words bytes room.
-          record {
-            ways = entry.starves fits (takes_of run) few (store_of run words bytes);
-            fits = fits_takes run words 0 room;
-            room = refl;
-          };
+      advance = record { ways = entry.starves fits (takes_of run) few (store_of run words bytes); fits = fits_takes run words 0 room; room = refl };
       shallow = λ e. fits;
     }

@@ -1,5 +1,5 @@
 -- Entering a node: "tests depth, then takes".
-use Rattle.std.specs.Prelude.{ℕ, ◌-◌, ◌≤◌, ◌<◌, ◌≡◌, List, set}
+use Rattle.std.specs.Prelude.{ℕ, ◌-◌, ◌≤◌, ◌<◌, ◌≡◌, List, []}
 use Rattle.packed.specs.declared.layout.Header.{Header}
 use Rattle.rules.specs.declared.Refusal.TheVariants.{Depth}
 use Rattle.rules.specs.Machine.{Ctl, enter_body, work, most_depth}
@@ -8,8 +8,9 @@ use Rattle.outcomes.specs.declared.Outcome.TheVariants.{Refused, Spent}
 use Rattle.outcomes.specs.declared.Outcome.{Outcome}
 use Rattle.std.specs.declared.ops.ControlFlow.{ControlFlow}
 use Rattle.std.specs.declared.ops.ControlFlow.TheVariants.{Continue, Break}
-use Rattle.outcomes.specs.Post.{AdvanceRun}
+use Rattle.outcomes.specs.Post.{Advance}
 use Rattle.stores.specs.declared.run.Run.{Run}
+use Rattle.stores.specs.declared.lent.Stores.{Stores}
 use Rattle.stores.specs.Run.{set_takes}
 
 -- so many takes at node n in depth d: all of them, none as it is too deep, or those that are left
@@ -19,10 +20,13 @@ pub data Took (n d takes : ℕ) (run : Run) : Run → ControlFlow Outcome (Unit 
   spent : d ≤ most_depth → takes_of run < takes → Took n d takes run (set_takes run 0) (Break (Spent n))
 
 -- from the control t₀ that enters node n to its work
-pub record Entered (image : List ℕ) (h : Header) (t₀ : Ctl) (n d : ℕ) (run run' : Run) (r : ControlFlow Outcome (Unit {0})) : Type 0 where
-  pub advance : AdvanceRun image h t₀ (work n d) run run' r
+pub record HasEntered (image : List ℕ) (h : Header) (t₀ : Ctl) (n d : ℕ) (run : Run) (words bytes : List ℕ) (run' : Run) (words' bytes' : List ℕ) (r : ControlFlow Outcome (Unit {0})) : Type 0 where
+  pub advance : Advance image h t₀ [] (work n d) [] run words bytes run' words' bytes' r
   pub shallow : r ≡ Continue tt → d ≤ most_depth
 
+abbrev pub Entered : List ℕ → Header → Ctl → ℕ → ℕ → Stores → Stores → ControlFlow Outcome (Unit {0}) → Type 0
+Entered image h t₀ n d s s' r = HasEntered image h t₀ n d s.run s.words.now s.bytes.now s'.run s'.words.now s'.bytes.now r
+
 -- a body takes once, whatever the image
-abbrev pub BodyEntered : ℕ → ℕ → Run → Run → ControlFlow Outcome (Unit {0}) → Type 0
-BodyEntered n d run run' r = (image : List ℕ) (h : Header) → Entered image h (enter_body n d) n d run run' r
+abbrev pub BodyEntered : ℕ → ℕ → Stores → Stores → ControlFlow Outcome (Unit {0}) → Type 0
+BodyEntered n d s s' r = (image : List ℕ) (h : Header) → Entered image h (enter_body n d) n d s s' r

@@ -44,7 +44,7 @@ fn take(run: &mut Run, n: u16, depth: u16, takes: u64) -> ControlFlow<Outcome>
 // "Entering an expression or body tests depth, then takes once", and eight kinds once more.
 pub fn enter_expr(image: &Image, stores: &mut Stores, n: u16, depth: u16) -> ControlFlow<Outcome>
     requires { (1 ≤ n) × (n ≤ image.now.header.nodes) }
-    ensures entered { Entered image.now.bytes.now image.now.header (Ctl.enter n depth) n depth stores.old.run stores.new.run result }
+    ensures store { Entered image.now.bytes.now image.now.header (Ctl.enter n depth) n depth stores.old stores.new result }
     ensures words { stores.new.words.now ≡ stores.old.words.now }
     ensures bytes { stores.new.bytes.now ≡ stores.old.bytes.now }
 {
@@ -55,7 +55,7 @@ pub fn enter_expr(image: &Image, stores: &mut Stores, n: u16, depth: u16) -> Con
 
 // "A scope that is an arm's, a default, or a loop's body takes once in all", whatever the image.
 pub fn enter_body(stores: &mut Stores, n: u16, depth: u16) -> ControlFlow<Outcome>
-    ensures entered { BodyEntered n depth stores.old.run stores.new.run result }
+    ensures store { BodyEntered n depth stores.old stores.new result }
     ensures words { stores.new.words.now ≡ stores.old.words.now }
     ensures bytes { stores.new.bytes.now ≡ stores.old.bytes.now }
 {

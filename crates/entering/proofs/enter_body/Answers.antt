@@ -2,5 +2,5 @@
 use Rattle.entering.proofs.EnterLaws.{of_body, entered_by}
 use Rattle.entering.proofs.enter_body.Goals as goal
 
-pub returns-clause-entered : goal.returns-clause-entered
-returns-clause-entered c = λ image h. entered_by (of_body image h _ _) c.take.ensures
+pub returns-clause-store : goal.returns-clause-store
+returns-clause-store c = λ image h. entered_by (of_body image h _ _) c.take.ensures _ c.args.stores.now.fits
