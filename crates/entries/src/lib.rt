@@ -3,29 +3,21 @@
 
 ghost use Rattle.std.specs.Prelude.{◌≡◌, ◌+◌, ◌≤◌, ◌<◌, length, drop};
 ghost use Rattle.std.proofs.lemmas.List.Edits.{sets};
-ghost use Rattle.packed.specs.Layout.{size_of};
 ghost use Rattle.stores.specs.Finding.{found_of};
 ghost use Rattle.stores.specs.View.{rec_at};
 ghost use Rattle.entries.specs.Entries.{keys_in, key_at, EntryPut};
 
-use packed::layout::Header;
+use packed::image::Image;
 use stores::run::MOST_CELLS;
 use texts::same_part;
 
 // The cell that has a key, from cell `from` up to `to`, which are all entries.
-fn find_key(
-    image: &[u8],
-    h: Header,
-    words: &[u64],
-    from: usize,
-    to: usize,
-    key: u64,
-) -> Option<usize>
-    requires { (size_of h ≤ length image.now) × (to ≤ 1024) × (8192 ≤ length words.now) }
-    ensures { result ≡ found_of (key_at image.now h key from (drop from (keys_in to words.now))) }
+fn find_key(image: &Image, words: &[u64], from: usize, to: usize, key: u64) -> Option<usize>
+    requires { (to ≤ 1024) × (8192 ≤ length words.now) }
+    ensures { result ≡ found_of (key_at image.now.bytes.now image.now.header key from (drop from (keys_in to words.now))) }
 {
     for i in from..to {
-        if same_part(image, h, words[1795 + 4 * i], key) {
+        if same_part(image, words[1795 + 4 * i], key) {
             return Some(i);
         }
     }
@@ -45,18 +37,17 @@ fn copy_pending(words: &mut [u64], at: usize, to: usize)
 // The pending item `at` entered under a key: in place of the value that the key has, or in the next cell, `end`. Gives where the object then ends; none where
 // there is no cell left.
 pub fn put_entry(
-    image: &[u8],
-    h: Header,
+    image: &Image,
     words: &mut [u64],
     head: usize,
     end: usize,
     key: u64,
     at: usize,
 ) -> Option<usize>
-    requires { (size_of h ≤ length image.now) × (head < end) × (end ≤ 1024) × (at < 512) × (8192 ≤ length words.old) }
-    ensures { EntryPut image.now h head end key at result words.old words.new }
+    requires { (head < end) × (end ≤ 1024) × (at < 512) × (8192 ≤ length words.old) }
+    ensures { EntryPut image.now.bytes.now image.now.header head end key at result words.old words.new }
 {
-    if let Some(i) = find_key(image, h, words, head + 1, end, key) {
+    if let Some(i) = find_key(image, words, head + 1, end, key) {
         copy_pending(words, at, 1792 + 4 * i);
         return Some(end);
     }
