@@ -36,7 +36,7 @@ pub fn enter_call(
     ensures { CallEntered image.now h n from run.old words.old run.new words.new result }
 {
     let function = function_of(image, h, n);
-    if pending_since(run, from) != function.count as u64 {
+    if pending_since(run, from) != u64::from(function.count) {
         return ControlFlow::Break(Outcome::Refused(Refusal::ArgumentCount, n));
     }
     if bind_arguments(words, run, function.first, from) {
