@@ -9,9 +9,8 @@ ghost use Rattle.outcomes.specs.Post.{Gives};
 use bindings::{bound_at, look_up};
 use outcomes::Outcome;
 use packed::layout::{Header, node_at};
-use rules::{Got, Refusal};
+use rules::Refusal;
 use slots::literals::literal_value;
-use stores::Found;
 use targets::get_target;
 
 pub fn eval_name(
@@ -27,8 +26,8 @@ pub fn eval_name(
 {
     let node = node_at(image, h, n as usize);
     match look_up(words, run, node.tag) {
-        Found::At(i) => Outcome::Done(bound_at(words, run, i)),
-        Found::Nothing => Outcome::Refused(Refusal::MissingName, n),
+        Some(i) => Outcome::Done(bound_at(words, run, i)),
+        None => Outcome::Refused(Refusal::MissingName, n),
     }
 }
 
@@ -44,10 +43,7 @@ pub fn eval_read(
     ensures { Gives image.now h (Ctl.work n depth) run.now words.now result }
 {
     let node = node_at(image, h, n as usize);
-    match get_target(image, h, words, run, node.a) {
-        Got::Is(v) => Outcome::Done(v),
-        Got::Not(why, place) => Outcome::Refused(why, place),
-    }
+    Outcome::from(get_target(image, h, words, run, node.a))
 }
 
 pub fn eval_value(
