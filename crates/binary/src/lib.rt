@@ -6,13 +6,13 @@ ghost use Rattle.rules.specs.Building.{binary_of};
 ghost use Rattle.rules.specs.Machine.{Frame};
 ghost use Rattle.stores.specs.Stores.{text_of, MakesText};
 ghost use Rattle.outcomes.specs.Outcomes.{IsNode};
-ghost use Rattle.binary.specs.Binary.{place_of, got_of_numbers, text_pair, float_pair};
+ghost use Rattle.binary.specs.Binary.{place_of, not_const, got_of_numbers, text_pair, float_pair};
 ghost use Rattle.outcomes.specs.Post.{AfterText};
 
-use numbers::{ArithRefusal, Binary, binary_float, binary_int};
+use numbers::{ArithRefusal, Number, OpError, binary_float, binary_int};
 use outcomes::Outcome;
 use packed::layout::{Header, node_at};
-use rules::{Got, Refusal, Value};
+use rules::{Refusal, Refused, Value};
 use texts::join;
 
 // "16, 17: binary; 18: right operand"
@@ -25,15 +25,28 @@ fn arith_place(n: u16, right: u16, why: ArithRefusal) -> u16
     }
 }
 
-fn of_numbers(n: u16, right: u16, res: Binary) -> Got
+fn of_numbers(n: u16, right: u16, res: Result<Number, OpError>) -> Result<Value, Refused>
     ensures { result ≡ got_of_numbers n right res }
 {
     match res {
-        Binary::Signed(z) => Got::Is(Value::Signed(z)),
-        Binary::Float(x) => Got::Is(Value::Float(x)),
-        Binary::Bool(b) => Got::Is(Value::Bool(b)),
-        Binary::Refused(why) => Got::Not(Refusal::Arithmetic(why), arith_place(n, right, why)),
-        _ => Got::Not(Refusal::NotConst, n),
+        Ok(Number::Signed(z)) => Ok(Value::Signed(z)),
+        Ok(Number::Float(x)) => Ok(Value::Float(x)),
+        Ok(Number::Bool(b)) => Ok(Value::Bool(b)),
+        Err(OpError::Arithmetic(why)) => Err(Refused {
+            why: Refusal::Arithmetic(why),
+            place: arith_place(n, right, why),
+        }),
+        Err(_) => Err(not_const(n)),
+    }
+}
+
+// "Anything else is 12."
+fn not_const(n: u16) -> Refused
+    ensures { result ≡ not_const n }
+{
+    Refused {
+        why: Refusal::NotConst,
+        place: n,
     }
 }
 
@@ -46,19 +59,19 @@ fn text_pair(
     n: u16,
     left: Value,
     right: Value,
-) -> Got
+) -> Result<Value, Refused>
     requires { IsNode image.now h n × (length bytes.old ≡ 16384) × (length run.old ≡ 16) × (text_of run.old ≤ 16384) }
     ensures { MakesText result (text_pair image.now h n left right) run.old bytes.old run.new bytes.new }
 {
     let Value::Text(start, len) = left else {
-        return Got::Not(Refusal::NotConst, n);
+        return Err(not_const(n));
     };
     let Value::Text(start2, len2) = right else {
-        return Got::Not(Refusal::NotConst, n);
+        return Err(not_const(n));
     };
     let node = node_at(image, h, n as usize);
     if node.op != 0 {
-        return Got::Not(Refusal::NotConst, n);
+        return Err(not_const(n));
     }
     join(image, h, bytes, run, n, start, len, start2, len2)
 }
@@ -72,7 +85,7 @@ fn float_pair(
     n: u16,
     left: Value,
     right: Value,
-) -> Got
+) -> Result<Value, Refused>
     requires { IsNode image.now h n × (length bytes.old ≡ 16384) × (length run.old ≡ 16) × (text_of run.old ≤ 16384) }
     ensures { MakesText result (float_pair image.now h n left right) run.old bytes.old run.new bytes.new }
 {
@@ -80,7 +93,7 @@ fn float_pair(
         return text_pair(image, h, bytes, run, n, left, right);
     };
     let Value::Float(y) = right else {
-        return Got::Not(Refusal::NotConst, n);
+        return Err(not_const(n));
     };
     let node = node_at(image, h, n as usize);
     of_numbers(n, node.b, binary_float(node.op, x, y))
@@ -95,7 +108,7 @@ fn binary_of(
     n: u16,
     left: Value,
     right: Value,
-) -> Got
+) -> Result<Value, Refused>
     requires { IsNode image.now h n × (length bytes.old ≡ 16384) × (length run.old ≡ 16) × (text_of run.old ≤ 16384) }
     ensures { MakesText result (binary_of image.now h n left right) run.old bytes.old run.new bytes.new }
 {
@@ -103,7 +116,7 @@ fn binary_of(
         return float_pair(image, h, bytes, run, n, left, right);
     };
     let Value::Signed(y) = right else {
-        return Got::Not(Refusal::NotConst, n);
+        return Err(not_const(n));
     };
     let node = node_at(image, h, n as usize);
     of_numbers(n, node.b, binary_int(node.op, x, y))
@@ -125,8 +138,5 @@ pub fn finish_binary(
     let Outcome::Done(right) = one else {
         return one;
     };
-    match binary_of(image, h, bytes, run, n, left, right) {
-        Got::Is(v) => Outcome::Done(v),
-        Got::Not(why, place) => Outcome::Refused(why, place),
-    }
+    Outcome::from(binary_of(image, h, bytes, run, n, left, right))
 }
