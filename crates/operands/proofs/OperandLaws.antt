@@ -5,11 +5,13 @@ use mathlib.Core.Bool.{Bool, true, false, ◌||◌, or-true, true≢false}
 use mathlib.Core.List.{List, [], ◌∷◌}
 use borrow.Author.Tests.{eqb-true, ne_eqb}
 use lib.Dec.{eqb}
+use Rattle.std.specs.Prelude.{Result}
 use Rattle.packed.specs.declared.layout.Header.{Header}
 use Rattle.packed.specs.declared.layout.Node.{Node}
 use Rattle.packed.specs.Layout.{node_at}
 use Rattle.rules.specs.declared.Value.{Value}
 use Rattle.rules.specs.declared.Value.TheVariants.{Unit as VUnit, Bool as VBool}
+use Rattle.rules.specs.declared.Refused.{Refused}
 use Rattle.rules.specs.Store.{declared}
 use Rattle.rules.specs.Targets.{target_set, target_assigned}
 use Rattle.rules.specs.Machine.{Kind, other, kinds, kind_of, ret, Frame, let_of}
@@ -17,7 +19,6 @@ use Rattle.rules.proofs.Going.{stay}
 use Rattle.rules.proofs.Moves.{decl_bound, set-wrote, assign_wrote, let_ignored, let_bound}
 use Rattle.rules.proofs.BreakMoves.{break_valued}
 use Rattle.stores.specs.Stores.{Fits, TriedWords}
-use Rattle.targets.specs.declared.Written.{Written}
 use Rattle.targets.specs.Reading.{WritesWords}
 use Rattle.outcomes.specs.declared.Outcome.{Outcome}
 use Rattle.outcomes.specs.declared.Outcome.TheVariants.{Done, Broke}
@@ -29,16 +30,19 @@ use Rattle.outcomes.proofs.Ways.{NoValue, all_pass, after_past, ended, wrote_pos
 
 -- ---- which kinds wait for an operand
 
--- a kind that has none, in the form in which a match tells it of what no arm names
-abbrev pub Idle : ℕ → Type 0
-Idle x = (((Unit {0} × (x ≡ 3 → ⊥)) × (x ≡ 4 → ⊥)) × (x ≡ 5 → ⊥)) × (x ≡ 12 → ⊥)
+-- a kind that has none
+pub record Idle (x : ℕ) : Type 0 where
+  pub no_decl : x ≡ 3 → ⊥
+  pub no_set : x ≡ 4 → ⊥
+  pub no_assign : x ≡ 5 → ⊥
+  pub no_break : x ≡ 12 → ⊥
 
 abbrev is_single : ℕ → Bool
 is_single x = eqb x 3 || (eqb x 4 || (eqb x 5 || eqb x 12))
 
 idle_kind : (test : Kind → Bool) → passes_at (λ y k. is_single y || test k) 0 kinds ≡ true → test other ≡ true → (x : ℕ) → Idle x → test (kind_of x) ≡ true
 idle_kind test pass past x idle =
-    rw (ne_eqb _ _ idle.0.0.0.1, ne_eqb _ _ idle.0.0.1, ne_eqb _ _ idle.0.1, ne_eqb _ _ idle.1) at
+    rw (ne_eqb _ _ idle.no_decl, ne_eqb _ _ idle.no_set, ne_eqb _ _ idle.no_assign, ne_eqb _ _ idle.no_break) at
     (every_kind (λ y k. is_single y || test k) pass (λ y none. rw (past, or-true)) x)
 
 abbrev is_none : List Frame → Bool
@@ -74,12 +78,12 @@ module _ (image : List ℕ) (h : Header) (n : ℕ) (d : Node) (node : d ≡ node
     unfolding kind_of kinds
     decl_done k tried e bytes = rw (e, waits k refl) (bound_post n VUnit (λ K. decl_bound refl) ((rw node at tried) bytes))
 
-    pub set-done : {w : Written} → d.kind ≡ 4 → WritesWords w (λ σ. target_set image h σ d.a v) run words run' words' → r ≡ written_of w
+    pub set-done : {w : Result (Unit {0}) Refused} → d.kind ≡ 4 → WritesWords w (λ σ. target_set image h σ d.a v) run words run' words' → r ≡ written_of w
         → PostWords image h (ret v) (waiting (kind_of (node_at image h n).kind) n) run words run' words' r
     unfolding kind_of kinds
     set-done k wrote e bytes = rw (e, waits k refl) (wrote_post (λ K. set-wrote refl) ((rw node at wrote) bytes))
 
-    pub assign_done : {w : Written} → d.kind ≡ 5 → WritesWords w (λ σ. target_assigned image h σ n d.op d.a v) run words run' words' → r ≡ written_of w
+    pub assign_done : {w : Result (Unit {0}) Refused} → d.kind ≡ 5 → WritesWords w (λ σ. target_assigned image h σ n d.op d.a v) run words run' words' → r ≡ written_of w
         → PostWords image h (ret v) (waiting (kind_of (node_at image h n).kind) n) run words run' words' r
     unfolding kind_of kinds
     assign_done k wrote e bytes = rw (e, waits k refl) (wrote_post (λ K. assign_wrote refl) ((rw node at wrote) bytes))

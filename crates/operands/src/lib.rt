@@ -12,15 +12,14 @@ ghost use Rattle.outcomes.specs.Outcomes.{IsNode, written_of, bound_of};
 use bindings::declare;
 use outcomes::Outcome;
 use packed::layout::{Header, Node, node_at};
-use rules::{Refusal, Value};
-use targets::{Written, assign_target, set_target};
+use rules::{Refusal, Refused, Value};
+use targets::{assign_target, set_target};
 
 // The operand's node.
 pub fn operand_of(node: Node) -> u16
     ensures { result ≡ operand_of (kind_of node.kind) node }
 {
-    let kind = node.kind;
-    match kind {
+    match node.kind {
         3 => node.a,
         4 => node.b,
         5 => node.b,
@@ -30,13 +29,10 @@ pub fn operand_of(node: Node) -> u16
 }
 
 // "Set, assign and decl give unit".
-fn written(x: Written) -> Outcome
+fn written(x: Result<(), Refused>) -> Outcome
     ensures { result ≡ written_of x }
 {
-    match x {
-        Written::Done => Outcome::Done(Value::Unit),
-        Written::Refused(why, place) => Outcome::Refused(why, place),
-    }
+    Outcome::from(x.map(|()| Value::Unit))
 }
 
 // "A 257th live binding is 10", at the decl or let condition.
@@ -61,8 +57,7 @@ fn use_operand(
     ensures { PostWords image.now h (Ctl.ret v) (waiting (kind_of (node_at image.now h n).kind) n) run.old words.old run.new words.new result }
 {
     let node = node_at(image, h, n as usize);
-    let kind = node.kind;
-    match kind {
+    match node.kind {
         3 => bound(declare(words, run, node.tag, v), n, Value::Unit),
         4 => written(set_target(image, h, words, run, node.a, v)),
         5 => written(assign_target(image, h, words, run, n, node.op, node.a, v)),
