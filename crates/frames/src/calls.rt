@@ -31,7 +31,7 @@ pub fn enter_call(image: &Image, stores: &mut Stores, n: u16, from: u64) -> Cont
     ensures bytes { stores.new.bytes.now ≡ stores.old.bytes.now }
 {
     let function = function_of(image, n);
-    if pending_since(stores, from) != function.count as u64 {
+    if pending_since(stores, from) != u64::from(function.count) {
         return ControlFlow::Break(Outcome::Refused(Refusal::ArgumentCount, n));
     }
     if bind_arguments(stores, function.first, from) {

@@ -51,7 +51,8 @@ impl fmt::Display for Place {
     }
 }
 
-// A refusal is an answer of `eval`; of `hex` nothing but the bytes goes to standard output.
+// A refusal is an answer of `eval`; of `hex` nothing but the bytes goes to standard output. (Standard output and error stay two
+// parameters: a struct of both would bring their two types into each signature.)
 fn print_refusal(stdout: &impl Print, stderr: &impl Print, answer: Answer, command: Command) {
     let number = answer.number();
     let means = meaning(number);

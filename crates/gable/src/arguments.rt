@@ -42,10 +42,7 @@ impl fmt::Display for Unclear {
 
 // Whether there is an argument i, the program's own name being argument 0.
 fn is_given(rt: &impl Env, i: usize) -> bool {
-    match rt.arg(i, &mut []) {
-        Err(FillError::NotPresent) => false,
-        _ => true,
-    }
+    !matches!(rt.arg(i, &mut []), Err(FillError::NotPresent))
 }
 
 fn command_asked(rt: &impl Env) -> Option<Command> {

@@ -38,13 +38,15 @@ impl From<u64> for Kind {
     }
 }
 
-// What stands before and behind the values that a value holds; none where it holds none.
-fn brackets(kind: Kind) -> Option<(u8, u8)> {
-    match kind {
-        Kind::Vec => Some((b'[', b']')),
-        Kind::Tuple => Some((b'(', b')')),
-        Kind::Object => Some((b'{', b'}')),
-        _ => None,
+impl Kind {
+    // What stands before and behind the values that a value holds; none where it holds none.
+    fn brackets(self) -> Option<(u8, u8)> {
+        match self {
+            Kind::Vec => Some((b'[', b']')),
+            Kind::Tuple => Some((b'(', b')')),
+            Kind::Object => Some((b'{', b'}')),
+            _ => None,
+        }
     }
 }
 
@@ -69,12 +71,12 @@ impl Reader<'_> {
 }
 
 // Text or bytes: a length in 16 bits, and so many bytes. In text those from 128 on are parts of characters.
-fn quoted(reader: &mut Reader<'_>, page: &mut Page<'_>, is_text: bool) {
+fn quoted(reader: &mut Reader<'_>, kind: Kind, page: &mut Page<'_>) {
     let length = reader.field(16);
     page.byte(b'"');
     for _ in 0..length {
         let b = reader.octet();
-        if is_text && !b.is_ascii() {
+        if kind == Kind::Text && !b.is_ascii() {
             page.byte(b);
         } else {
             page.escaped(b, b'"');
@@ -121,10 +123,10 @@ fn single(reader: &mut Reader<'_>, kind: Kind, page: &mut Page<'_>) {
             let _ = write!(page, "0x{word:016x}");
         }
         Kind::Char => quoted_character(page, character(reader.field(21))),
-        Kind::Text => quoted(reader, page, true),
+        Kind::Text => quoted(reader, kind, page),
         Kind::Bytes => {
             page.byte(b'b');
-            quoted(reader, page, false);
+            quoted(reader, kind, page);
         }
         Kind::Unit | Kind::Vec | Kind::Tuple | Kind::Object => page.bytes(b"unit"),
     }
@@ -136,7 +138,7 @@ fn before_item(reader: &mut Reader<'_>, kind: Kind, i: u64, page: &mut Page<'_>)
         page.bytes(b", ");
     }
     if kind == Kind::Object {
-        quoted(reader, page, true);
+        quoted(reader, Kind::Text, page);
         page.bytes(b": ");
     }
 }
@@ -147,7 +149,7 @@ fn nested(reader: &mut Reader<'_>, levels: u8, page: &mut Page<'_>) {
     if levels == 0 {
         return single(reader, kind, page);
     }
-    let Some((opening, closing)) = brackets(kind) else {
+    let Some((opening, closing)) = kind.brackets() else {
         return single(reader, kind, page);
     };
     let count = reader.field(12);

@@ -1,26 +1,25 @@
 -- An item accepted, and what is built when all are there, at any depth.
-use Rattle.std.specs.Prelude.{ℕ, ◌≡◌, cond, List, [], ◌∷◌, eqb}
+use Rattle.std.specs.Prelude.{ℕ, ◌≡◌, cond, Result, Ok, List, [], ◌∷◌, eqb}
 use Rattle.packed.specs.declared.layout.Header.{Header}
 use Rattle.rules.specs.declared.Value.{Value}
 use Rattle.rules.specs.Store.{Store, as_float}
 use Rattle.rules.specs.Building.{printed}
 use Rattle.rules.specs.Machine.{items, ret, item_of, onward}
-use Rattle.building.specs.declared.Judged.{Judged}
-use Rattle.building.specs.declared.Judged.TheVariants.{Prints}
+use Rattle.rules.specs.declared.Refusal.{Refusal}
 use Rattle.building.specs.Making.{judged_of}
 use Rattle.outcomes.specs.declared.Outcome.{Outcome}
-use Rattle.outcomes.specs.declared.Progress.{Progress}
+use Rattle.std.specs.declared.ops.ControlFlow.{ControlFlow}
 use Rattle.outcomes.specs.Post.{Post, Advance, AfterOn}
 
 -- "each component is judged as soon as it is evaluated": in a template, kind 6, and nowhere else
-pub record Judges (kind : ℕ) (v : Value) (r : Judged) : Type 0 where
-  pub is : (image : List ℕ) (h : Header) (σ : Store) → r ≡ cond (eqb kind 6) (judged_of (printed image h σ v) (as_float v)) Prints
+pub record Judges (kind : ℕ) (v : Value) (r : Result (Unit {0}) Refusal) : Type 0 where
+  pub is : (image : List ℕ) (h : Header) (σ : Store) → r ≡ cond (eqb kind 6) (judged_of (printed image h σ v) (as_float v)) (Ok tt)
 
-abbrev pub Accepted : List ℕ → Header → ℕ → ℕ → Value → List ℕ → List ℕ → List ℕ → List ℕ → Progress → Type 0
+abbrev pub Accepted : List ℕ → Header → ℕ → ℕ → Value → List ℕ → List ℕ → List ℕ → List ℕ → ControlFlow Outcome (Unit {0}) → Type 0
 Accepted image h n i v run words run' words' r =
     (d from : ℕ) (bytes : List ℕ) → Advance image h (ret v) (item_of n i d from ∷ []) (items n (onward image h i) d from) [] run words bytes run' words' bytes r
 
-abbrev pub ItemOver : List ℕ → Header → ℕ → ℕ → ℕ → Outcome → List ℕ → List ℕ → List ℕ → List ℕ → Progress → Type 0
+abbrev pub ItemOver : List ℕ → Header → ℕ → ℕ → ℕ → Outcome → List ℕ → List ℕ → List ℕ → List ℕ → ControlFlow Outcome (Unit {0}) → Type 0
 ItemOver image h n i from one run words run' words' r =
     (d : ℕ) (bytes : List ℕ) → AfterOn image h (item_of n i d from ∷ []) (items n (onward image h i) d from) one run words bytes run' words' bytes r
 

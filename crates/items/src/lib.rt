@@ -9,10 +9,11 @@ ghost use Rattle.items.specs.Gathering.{Builds};
 ghost use Rattle.outcomes.specs.Outcomes.{IsNode, got_of};
 ghost use Rattle.items.specs.Items.{Judges, Accepted, ItemOver, Built};
 
-use building::{Judged, judge_component, make_object, make_template, make_tuple, make_vec};
-use outcomes::{Outcome, Progress};
+use building::{judge_component, make_items, make_object, make_template};
+use outcomes::Outcome;
 use packed::layout::{Header, node_at};
-use rules::{Got, Refusal, Value};
+use rules::{Refusal, Value};
+use std::ops::ControlFlow;
 use stores::pending::{drop_pending, push};
 
 // The kind of an object.
@@ -35,13 +36,13 @@ pub fn item_node(image: &[u8], h: Header, n: u16, i: u16) -> u16
 const TEMPLATE: u8 = 6;
 
 // "each component is judged as soon as it is evaluated", by the kind of the node whose item it is.
-fn judge(kind: u8, v: Value) -> Judged
+fn judge(kind: u8, v: Value) -> Result<(), Refusal>
     ensures { Judges kind v result }
 {
     if kind == TEMPLATE {
         return judge_component(v);
     }
-    Judged::Prints
+    Ok(())
 }
 
 // The value of item i judged and left pending: "the 513th is 11 at once".
@@ -53,18 +54,18 @@ fn accept(
     n: u16,
     i: u16,
     v: Value,
-) -> Progress
+) -> ControlFlow<Outcome>
     requires { IsNode image.now h n × Fits run.old words.old }
     ensures { Accepted image.now h n i v run.old words.old run.new words.new result }
 {
     let node = node_at(image, h, n as usize);
-    if let Judged::Refused(why) = judge(node.kind, v) {
-        return Progress::Out(Outcome::Refused(why, i));
+    if let Err(why) = judge(node.kind, v) {
+        return ControlFlow::Break(Outcome::Refused(why, i));
     }
     if push(words, run, v) {
-        return Progress::On;
+        return ControlFlow::Continue(());
     }
-    Progress::Out(Outcome::Refused(Refusal::Pending, n))
+    ControlFlow::Break(Outcome::Refused(Refusal::Pending, n))
 }
 
 // After item i; a break that leaves it gives back what is pending since `from`.
@@ -77,7 +78,7 @@ pub fn finish_item(
     i: u16,
     from: u64,
     one: Outcome,
-) -> Progress
+) -> ControlFlow<Outcome>
     requires { IsNode image.now h n × Fits run.old words.old }
     ensures { ItemOver image.now h n i from one run.old words.old run.new words.new result }
 {
@@ -85,18 +86,9 @@ pub fn finish_item(
         Outcome::Done(v) => accept(image, h, words, run, n, i, v),
         Outcome::Broke(b, v) => {
             drop_pending(run, from);
-            Progress::Out(Outcome::Broke(b, v))
+            ControlFlow::Break(Outcome::Broke(b, v))
         }
-        _ => Progress::Out(one),
-    }
-}
-
-fn made(x: Got) -> Outcome
-    ensures { result ≡ got_of x }
-{
-    match x {
-        Got::Is(v) => Outcome::Done(v),
-        Got::Not(why, place) => Outcome::Refused(why, place),
+        _ => ControlFlow::Break(one),
     }
 }
 
@@ -114,12 +106,11 @@ pub fn build(
     ensures { Built image.now h n from run.old words.old bytes.old run.new words.new bytes.new result }
 {
     let node = node_at(image, h, n as usize);
-    let kind = node.kind;
-    match kind {
-        6 => made(make_template(image, h, words, bytes, run, n, from)),
-        13 => made(make_vec(words, run, n, from)),
-        14 => made(make_tuple(words, run, n, from)),
-        15 => made(make_object(image, h, words, run, n, from)),
+    match node.kind {
+        6 => Outcome::from(make_template(image, h, words, bytes, run, n, from)),
+        13 => Outcome::from(make_items(words, run, n, from).map(Value::Vec)),
+        14 => Outcome::from(make_items(words, run, n, from).map(Value::Tuple)),
+        15 => Outcome::from(make_object(image, h, words, run, n, from)),
         _ => Outcome::Refused(Refusal::NotConst, n),
     }
 }

@@ -95,12 +95,12 @@ module _ (image : List ℕ) (h : Header) (run : Run) (words bytes : List ℕ) (o
   next_of front rest last r (after before {i = i}) e next = answer_next image h run words owner r i before rest bytes next (e ∙ append_assoc before (i ∷ []) rest)
 
   first_is : (rest : List ℕ) (i : ℕ) → Some i ≡ found_of (head_of rest) → (more : List ℕ) × (rest ≡ i ∷ more)
-  first_is [] i e = let z : ◌≡◌ {A = ℕ} 0 1 = cc in absurd (omega arith)
+  first_is [] i e = cc
   first_is (j ∷ rest) i e = let same : j ≡ i = cc in (rest, ap (λ (x : ℕ). x ∷ rest) same)
 
   none_is : (rest : List ℕ) → None ≡ found_of (head_of rest) → rest ≡ []
   none_is [] e = refl
-  none_is (j ∷ rest) e = let z : ◌≡◌ {A = ℕ} 0 1 = cc in absurd (omega arith)
+  none_is (j ∷ rest) e = cc
 
   count_both : (front rest : List ℕ) (count : ℕ) → sorted_cells image h owner τ.cells ≡ front ++ rest → EntryCount count run words owner → count ≡ length front + length rest
   count_both front rest count e c =

@@ -104,15 +104,15 @@ pub whole_at : {image : List ℕ} {h : Header} {run : Run} {words bytes : List �
 whole_at x = writes_place (record { small = omega arith; within = omega arith }) (writes_value x)
 
 of_stuck : (image : List ℕ) (h : Header) (out out₁ : List ℕ) (d : Encoded) (why : NoPlace) → Poured false 0 d out out₁ (Err why) → (Err why ≡ written_of d) × (out₁ ≡ out_of image h out d)
-of_stuck image h out out₁ (bits bs) why p = let z : ◌≡◌ {A = ℕ} 0 1 = cc p.told in absurd (omega arith)
+of_stuck image h out out₁ (bits bs) why p = cc p.told
 of_stuck image h out out₁ nested why p = let e : why ≡ Nested = cc p.told in (ap Err e, p.kept refl)
 of_stuck image h out out₁ full why p = let e : why ≡ Full = cc p.told in (ap Err e, p.kept refl)
 
 -- what was measured has a place
 of_placed : (out out₁ out₂ : List ℕ) (d : Encoded) (end : Spot) (why : NoPlace) → Poured false 0 d out out₁ (Ok end) → Poured true 0 d out out₂ (Err why) → ⊥
-of_placed out out₁ out₂ (bits bs) end why p q = let z : ◌≡◌ {A = ℕ} 0 1 = cc q.told in omega arith
-of_placed out out₁ out₂ nested end why p q = let z : ◌≡◌ {A = ℕ} 0 1 = cc p.told in omega arith
-of_placed out out₁ out₂ full end why p q = let z : ◌≡◌ {A = ℕ} 0 1 = cc p.told in omega arith
+of_placed out out₁ out₂ (bits bs) end why p q = cc q.told
+of_placed out out₁ out₂ nested end why p q = cc p.told
+of_placed out out₁ out₂ full end why p q = cc p.told
 
 of_written : (image : List ℕ) (h : Header) (out out₂ : List ℕ) (d : Encoded) (end : Spot) (n : ℕ) → Poured true 0 d out out₂ (Ok end) → n ≡ (bits_before end + 7) / 8
     → (Ok n ≡ written_of d) × (out₂ ≡ out_of image h out d)
@@ -121,8 +121,8 @@ of_written image h out out₂ (bits bs) end n q e =
     let same : here.bs ≡ bs = cc here.is in
     let long : length bs ≡ bits_before end = ap length (sym same) ∙ omega (arith, here.at) in
     (ap Ok (e ∙ ap (λ (k : ℕ). (k + 7) / 8) (sym long)), poured_all q)
-of_written image h out out₂ nested end n q e = let z : ◌≡◌ {A = ℕ} 0 1 = cc q.told in absurd (omega arith)
-of_written image h out out₂ full end n q e = let z : ◌≡◌ {A = ℕ} 0 1 = cc q.told in absurd (omega arith)
+of_written image h out out₂ nested end n q e = cc q.told
+of_written image h out out₂ full end n q e = cc q.told
 
 module _ {image : List ℕ} {h : Header} {run : Run} {words bytes : List ℕ} {v : Value} {out : List ℕ} where
   -- from the start there is all the room

@@ -55,10 +55,10 @@ poured_none : (writing : Bool) (p : ℕ) (e : Encoded) (out : List ℕ) → ((bs
 poured_none writing p e out none = record { told = refl; written = λ t bs q. absurd (none bs q); kept = λ f. refl; long = refl }
 
 pub poured_nested : (writing : Bool) (p : ℕ) (out : List ℕ) → Poured writing p nested out out (Err Nested)
-poured_nested writing p out = poured_none writing p nested out (λ bs q. let z : ◌≡◌ {A = ℕ} 0 1 = cc in omega arith)
+poured_nested writing p out = poured_none writing p nested out (λ bs q. cc)
 
 pub poured_full : (writing : Bool) (p : ℕ) (out : List ℕ) → Poured writing p full out out (Err Full)
-poured_full writing p out = poured_none writing p full out (λ bs q. let z : ◌≡◌ {A = ℕ} 0 1 = cc in omega arith)
+poured_full writing p out = poured_none writing p full out (λ bs q. cc)
 
 -- ---- one encoding after another
 
@@ -74,8 +74,8 @@ pours_after : {p : ℕ} {cs out out₁ out₂ : List ℕ} (e : Encoded) (ds : Li
 pours_after {p} {cs} {out} {out₁} {out₂} (bits bs) ds first second q =
     let same : cs ++ bs ≡ ds = cc in
     subst (λ (l : List ℕ). Pours p l out out₂) same (pours_then first (second bs refl))
-pours_after nested ds first second q = absurd (let z : ◌≡◌ {A = ℕ} 0 1 = cc in omega arith)
-pours_after full ds first second q = absurd (let z : ◌≡◌ {A = ℕ} 0 1 = cc in omega arith)
+pours_after nested ds first second q = cc
+pours_after full ds first second q = cc
 
 pub poured_then : {writing : Bool} {p : ℕ} {cs out out₁ out₂ : List ℕ} {r₁ r : Result Spot NoPlace} (e : Encoded)
     → Poured writing p (bits cs) out out₁ r₁ → Poured writing (p + length cs) e out₁ out₂ r → Poured writing p (after cs e) out out₂ r
@@ -95,13 +95,13 @@ poured_on {writing} {p} {s} {out} {out₁} {out₂} {r} (bits bs) on first rest 
     let same : here.bs ≡ bs = cc here.is in
     let at : p + length bs ≡ bits_before s = ap (λ (l : List ℕ). p + length l) (sym same) ∙ here.at in
     poured_then (on bs) first (subst (λ (n : ℕ). Poured writing n (on bs) out₁ out₂ r) (sym at) (rest bs refl at))
-poured_on {p = p} {s = s} nested on first rest = absurd (let z : ◌≡◌ {A = ℕ} 0 1 = cc first.told in omega arith)
-poured_on {p = p} {s = s} full on first rest = absurd (let z : ◌≡◌ {A = ℕ} 0 1 = cc first.told in omega arith)
+poured_on {p = p} {s = s} nested on first rest = cc first.told
+poured_on {p = p} {s = s} full on first rest = cc first.told
 
 -- what has no place to go on from ends all
 pub poured_stop : {writing : Bool} {p : ℕ} {out out' : List ℕ} {why : NoPlace} (e : Encoded) (on : List ℕ → Encoded)
     → Poured writing p e out out' (Err why) → Poured writing p (and_then e on) out out' (Err why)
-poured_stop {p = p} {why = why} (bits bs) on first = absurd (let z : ◌≡◌ {A = ℕ} 0 1 = cc first.told in omega arith)
+poured_stop {p = p} {why = why} (bits bs) on first = cc first.told
 poured_stop nested on first = first
 poured_stop full on first = first
 
@@ -220,4 +220,4 @@ module _ {writing : Bool} {p : ℕ} {out : List ℕ} where
 
   pub puts_at : {s : Spot} {ps : List Piece} {out' : List ℕ} → Header → Store → p ≤ 8 * length out → Puts writing p ps out out' (Ok s) → IsPlace s out'
   puts_at h σ l first =
-      passed_at (record { keeps = λ room v bs e. absurd (let z : ◌≡◌ {A = ℕ} 0 1 = cc in omega arith) }) l (first.is [] h σ (λ room v. full))
+      passed_at (record { keeps = λ room v bs e. cc }) l (first.is [] h σ (λ room v. full))

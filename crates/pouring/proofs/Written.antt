@@ -48,10 +48,10 @@ then_keeps room (bits cs) f first second bs i = go (f cs) refl i
     go (bits ds) p q =
         let same : cs ++ ds ≡ bs = cc in
         omega (arith, first cs refl, second cs ds refl p, ap length same, length-append cs ds)
-    go nested p q = let z : ◌≡◌ {A = ℕ} 0 1 = cc in omega arith
-    go full p q = let z : ◌≡◌ {A = ℕ} 0 1 = cc in omega arith
-then_keeps room nested f first second bs i = let z : ◌≡◌ {A = ℕ} 0 1 = cc in omega arith
-then_keeps room full f first second bs i = let z : ◌≡◌ {A = ℕ} 0 1 = cc in omega arith
+    go nested p q = cc
+    go full p q = cc
+then_keeps room nested f first second bs i = cc
+then_keeps room full f first second bs i = cc
 
 -- a way to write values keeps to the room
 pub record KeepsRoom (write : ℕ → Value → Encoded) : Type 0 where
@@ -135,8 +135,7 @@ module _ (image : List ℕ) (h : Header) (σ : Store) (write : ℕ → Value →
           bs (rw (le-leb w room p) at e)
       go (no p) rest =
           let none : full ≡ bits bs = rw (lt-leb w room (omega arith)) at e in
-          let z : ◌≡◌ {A = ℕ} 0 1 = cc in
-          omega arith
+          cc
   written_keeps keep room (within v ∷ ps) bs e =
       then_keeps room (write room v) (λ cs. written (room - length cs) ps) (λ cs q. keep.keeps room v cs q)
       (λ cs ds q i. written_keeps keep (room - length cs) ps ds i) bs e
@@ -144,7 +143,7 @@ module _ (image : List ℕ) (h : Header) (σ : Store) (write : ℕ → Value →
 module _ (image : List ℕ) (h : Header) (σ : Store) where
   pub encoded_keeps : (allowance : ℕ) → KeepsRoom (encoded image h σ allowance)
   unfolding encoded
-  encoded_keeps zero = record { keeps = λ room v bs e. let z : ◌≡◌ {A = ℕ} 0 1 = cc in omega arith }
+  encoded_keeps zero = record { keeps = λ room v bs e. cc }
   encoded_keeps (suc n) =
       record { keeps = λ room v bs e. written_keeps image h σ (encoded image h σ n) (encoded_keeps n) room (pieces image h σ v) bs e }
 

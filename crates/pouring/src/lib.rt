@@ -9,7 +9,8 @@ ghost use Rattle.pouring.specs.Pouring.{Pours, Puts, IsPlace, bits_before, spot_
 
 use fields::cut;
 
-// Where the next bit goes: behind so many whole bytes, and bits of the next one.
+// Where the next bit goes: behind so many whole bytes, and bits of the next one. That those are fewer than eight stands in `IsPlace`: as a
+// ghost field it would be one more proof in each equation of two places, which is no plainer.
 #[derive(Clone, Copy, Debug, PartialEq, Eq)]
 pub struct Spot {
     pub bytes: usize,

@@ -10,6 +10,7 @@ use std::fmt;
 use std::fmt::Write;
 use std::io::Error;
 
+// (Each method promises that the page stays on the same slice, so that who lent it knows what it holds afterwards.)
 #[derive(Drop)]
 pub struct Page<'a> {
     all: &'a mut [u8],

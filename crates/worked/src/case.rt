@@ -14,9 +14,10 @@ const BYTES: usize = 16384;
 // The longest image and output of the data's lines, with room to spare.
 const ROOM: usize = 4160;
 
-// The words of a line between its image and its output.
-#[derive(Clone, Copy, Debug, PartialEq, Eq)]
-struct Case {
+// What a line tells.
+#[derive(Clone, Copy)]
+struct Case<'a> {
+    image: &'a [u8],
     budget: u64,
     // the lengths of what is lent
     out: usize,
@@ -26,6 +27,7 @@ struct Case {
     number: u64,
     place: u64,
     steps: u64,
+    output: &'a [u8],
 }
 
 #[derive(Clone, Copy, Debug, PartialEq, Eq)]
@@ -63,11 +65,19 @@ pub fn length_of(answer: Answer) -> usize {
     }
 }
 
-fn is_due(answer: Answer, case: Case, length: usize) -> bool {
+fn is_due(answer: Answer, case: Case<'_>) -> bool {
     u64::from(answer.number()) == case.number
         && answer.place() as u64 == case.place
         && answer.steps() == case.steps
-        && length_of(answer) == length
+        && length_of(answer) == case.output.len()
+}
+
+// The stores and the output afterwards. A case is lent the start of each, and what stands behind that is compared too.
+#[derive(Clone, Copy)]
+struct Left<'a> {
+    words: &'a [u64],
+    bytes: &'a [u8],
+    out: &'a [u8],
 }
 
 // After refusal 5 the stores are as found, after any other answer their first parts are zero.
@@ -87,35 +97,25 @@ fn bytes_are_right(bytes: &[u8], number: u64, first: u64) -> bool {
     begins(bytes, &zeros, first)
 }
 
-fn judged(
-    answer: Answer,
-    case: Case,
-    output: &[u8],
-    words: &[u64],
-    bytes: &[u8],
-    out: &[u8],
-    first: u64,
-) -> Result<(), Fault> {
-    if !is_due(answer, case, output.len()) {
+fn judged(answer: Answer, case: Case<'_>, left: Left<'_>, first: u64) -> Result<(), Fault> {
+    if !is_due(answer, case) {
         return Err(Fault::Answer);
     }
-    if !begins(out, output, first) {
+    if !begins(left.out, case.output, first) {
         return Err(Fault::Output);
     }
-    if !words_are_right(words, case.number, first) {
+    if !words_are_right(left.words, case.number, first) {
         return Err(Fault::Words);
     }
-    if !bytes_are_right(bytes, case.number, first) {
+    if !bytes_are_right(left.bytes, case.number, first) {
         return Err(Fault::Bytes);
     }
     Ok(())
 }
 
-// What is lent is the start of the stores and of the output, and what stands behind it is compared too.
+// (No struct of the three: the borrow checker does not cover fields of one that are lent at once behind a reference.)
 fn evaluated(
-    image: &[u8],
-    case: Case,
-    output: &[u8],
+    case: Case<'_>,
     words: &mut [u64],
     bytes: &mut [u8],
     out: &mut [u8],
@@ -125,40 +125,28 @@ fn evaluated(
         return None;
     }
     let answer = evaluate(
-        image,
+        case.image,
         case.budget,
         &mut words[..case.words],
         &mut bytes[..case.bytes],
         &mut out[..case.out],
     );
-    let judged = judged(answer, case, output, words, bytes, out, first);
+    let judged = judged(answer, case, Left { words, bytes, out }, first);
     Some(Outcome { answer, judged })
 }
 
-fn on_stores(image: &[u8], case: Case, output: &[u8], first: u64) -> Option<Outcome> {
+fn on_stores(case: Case<'_>, first: u64) -> Option<Outcome> {
     let mut words = [0u64; WORDS + 32];
     let mut bytes = [0u8; BYTES + 32];
     let mut out = [0u8; ROOM];
     fill(&mut words, first);
     fill(&mut bytes, first);
     fill(&mut out, first);
-    evaluated(image, case, output, &mut words, &mut bytes, &mut out, first)
+    evaluated(case, &mut words, &mut bytes, &mut out, first)
 }
 
 fn number_at(line: &[u8], n: usize) -> Option<u64> {
     number(word(line, n)?)
-}
-
-fn case_of(line: &[u8]) -> Option<Case> {
-    Some(Case {
-        budget: number_at(line, 1)?,
-        out: number_at(line, 2)? as usize,
-        words: number_at(line, 3)? as usize,
-        bytes: number_at(line, 4)? as usize,
-        number: number_at(line, 5)?,
-        place: number_at(line, 6)?,
-        steps: number_at(line, 7)?,
-    })
 }
 
 // The line's program is evaluated, on stores and an output that are filled from this number on; none where the line is no
@@ -166,16 +154,21 @@ fn case_of(line: &[u8]) -> Option<Case> {
 pub fn tried(line: &[u8], first: u64) -> Option<Outcome> {
     let mut image = [0u8; ROOM];
     let mut output = [0u8; ROOM];
-    let case = case_of(line)?;
     let image_length = bytes(word(line, 0)?, &mut image)?;
     let output_length = bytes(word(line, 8)?, &mut output)?;
     if word(line, 9).is_some() {
         return None;
     }
-    on_stores(
-        &image[..image_length],
-        case,
-        &output[..output_length],
-        first,
-    )
+    let case = Case {
+        image: &image[..image_length],
+        budget: number_at(line, 1)?,
+        out: number_at(line, 2)? as usize,
+        words: number_at(line, 3)? as usize,
+        bytes: number_at(line, 4)? as usize,
+        number: number_at(line, 5)?,
+        place: number_at(line, 6)?,
+        steps: number_at(line, 7)?,
+        output: &output[..output_length],
+    };
+    on_stores(case, first)
 }

@@ -49,6 +49,7 @@ impl fmt::Display for Outcome {
     }
 }
 
+// (Standard output and error stay two parameters: a struct of both would bring their two types into each signature.)
 fn print_case(
     stdout: &impl Print,
     stderr: &impl Print,
@@ -91,10 +92,8 @@ fn lines_tried(
     before: Count,
 ) -> Count {
     let mut count = before;
-    let mut number: u64 = 1;
-    for line in text.split(|b| *b == b'\n') {
+    for (number, line) in (1..u64::MAX).zip(text.split(|b| *b == b'\n')) {
         count = line_tried(stdout, stderr, name, line, number, count);
-        number = number.wrapping_add(1);
     }
     count
 }

@@ -24,8 +24,8 @@ fn bytes_of(word: &[u8], bytes: &mut [u8]) -> Option<usize>
     if word.len() % 2 == 1 || bytes.len() < length {
         return None;
     }
-    for i in 0..length {
-        bytes[i] = hex_digit(word[2 * i])? * 16 + hex_digit(word[2 * i + 1])?;
+    for (byte, pair) in bytes.iter_mut().zip(word.chunks_exact(2)) {
+        *byte = hex_digit(pair[0])? * 16 + hex_digit(pair[1])?;
     }
     Some(length)
 }
