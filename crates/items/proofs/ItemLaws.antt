@@ -25,16 +25,18 @@ use Rattle.rules.specs.Machine.{Kind, template, object, kinds, kind_of, items, b
 use Rattle.rules.proofs.Going.{to}
 use Rattle.rules.proofs.ItemMoves.{Boxes, vecs as vec_boxes, tuples as tuple_boxes, Accepts, unjudged, prints, item_accepted, too_many_pending, item_unprinted, template_built, items_boxed, entries_boxed}
 use Rattle.rules.proofs.BreakMoves.{break_drops}
-use Rattle.stores.specs.Stores.{store_of, Fits, Makes, MakesWords, BecameRun, TriedWords}
+use Rattle.stores.specs.Stores.{store_of, Fits, Makes, Became, Tried}
 use Rattle.stores.specs.Pending.{pushed_if_room}
-use Rattle.building.specs.Making.{boxed_by, MakesItems, object_made, template_made, judged_of}
+use Rattle.building.specs.Making.{boxed_by, object_made, template_made, judged_of, items_made}
 use Rattle.outcomes.specs.declared.Outcome.{Outcome}
 use Rattle.outcomes.specs.declared.Outcome.TheVariants.{Done, Broke, Refused}
 use Rattle.std.specs.declared.ops.ControlFlow.{ControlFlow}
 use Rattle.std.specs.declared.ops.ControlFlow.TheVariants.{Continue, Break}
 use Rattle.outcomes.specs.Outcomes.{got_of}
-use Rattle.items.specs.Items.{Judges, Accepted, ItemOver, Built}
+use Rattle.items.specs.Items.{Judges, ItemEnds, BuiltOf}
+use Rattle.items.specs.Items.{Accepts as ItemAccepts}
 use Rattle.outcomes.proofs.Ways.{refused, out_of, made_post}
+use Rattle.stores.specs.declared.run.Run.{Run}
 
 -- ---- one pending item more, or 512 before it
 
@@ -88,45 +90,42 @@ module _ (image : List ℕ) (h : Header) (n : ℕ) (d : Node) (node : d ≡ node
       go (yes k) = k
       go (no k) = let f = elsewhere σ k in absurd (cc)
 
-  module _ {i : ℕ} {run words : List ℕ} where
-    pub item_refused : {why : Refusal} → j ≡ Err why → Fits run words → Accepted image h n i v run words run words (Break (Refused why i))
-    item_refused e fits depth from bytes =
+  module _ {i : ℕ} {run : Run} {words bytes : List ℕ} where
+    pub item_refused : {why : Refusal} → j ≡ Err why → Fits run words → ItemAccepts image h n i v run words bytes run words bytes (Break (Refused why i))
+    item_refused e fits depth from =
         let σ = store_of run words bytes in
         let k = a_template σ e in
         let both = why_refused (printed image h σ v) (as_float v) (sym e ∙ in_template σ k) in
         out_of _ _ (refused (λ K. to (item_unprinted k both.0) (ap (λ (w : Refusal). stop w i) both.1)) fits refl)
 
-    module _ {kept : Bool} {run' words' : List ℕ} (e : j ≡ Ok tt) (tried : TriedWords kept (pushed_if_room v) run words run' words') where
-      pub item_pending : kept ≡ true → Accepted image h n i v run words run' words' (Continue tt)
-      item_pending room depth from bytes =
+    module _ {kept : Bool} {run' : Run} {words' bytes' : List ℕ} (e : j ≡ Ok tt) (t : Tried kept (pushed_if_room v) run words bytes run' words' bytes') where
+      pub item_pending : kept ≡ true → ItemAccepts image h n i v run words bytes run' words' bytes' (Continue tt)
+      item_pending room depth from =
           let σ = store_of run words bytes in
-          let t = tried bytes in
-          let both = room_left v σ (store_of run' words' bytes) (rw room at t.did) in
+          let both = room_left v σ (store_of run' words' bytes') (rw room at t.did) in
           record {
             ways = record { path = λ K. rw t.kept.takes (to (item_accepted (accepts σ e) both.0) (ap (going (items n (onward image h i) depth from) K) both.1)) };
             fits = t.kept.fits;
             room = t.kept.room;
           }
 
-      pub pending_full : kept ≡ false → Accepted image h n i v run words run' words' (Break (Refused Pending n))
-      pending_full full depth from bytes =
+      pub pending_full : kept ≡ false → ItemAccepts image h n i v run words bytes run' words' bytes' (Break (Refused Pending n))
+      pending_full full depth from =
           let σ = store_of run words bytes in
-          let t = tried bytes in
           out_of _ _
           (refused (λ K. rw t.kept.takes (too_many_pending (accepts σ e) (none_left v σ (rw full at t.did)))) t.kept.fits t.kept.room)
 
 -- ---- after an item
 
-module _ {image : List ℕ} {h : Header} {n i from : ℕ} {one : Outcome} {run words run' : List ℕ} where
-  pub item_over : {words' : List ℕ} {v : Value} {r : ControlFlow Outcome (Unit {0})} → one ≡ Done v → Accepted image h n i v run words run' words' r
-      → ItemOver image h n i from one run words run' words' r
-  item_over e accepted depth bytes = rw e (record { ways = accepted depth from bytes })
+module _ {image : List ℕ} {h : Header} {n i from : ℕ} {one : Outcome} {run : Run} {words bytes : List ℕ} {run' : Run} {words' bytes' : List ℕ} where
+  pub item_over : {v : Value} {r : ControlFlow Outcome (Unit {0})} → one ≡ Done v → ItemAccepts image h n i v run words bytes run' words' bytes' r
+      → ItemEnds image h n i from one run words bytes run' words' bytes' r
+  item_over e accepted depth = rw e (record { ways = accepted depth from })
 
   -- "They are given back when the node ends or a break leaves it"
-  pub item_broken : {b : ℕ} {v : Value} → one ≡ Broke b v → Fits run words → BecameRun (dropped from) run run'
-      → ItemOver image h n i from one run words run' words (Break (Broke b v))
-  item_broken {b} {v} e fits became depth bytes =
-      let x = became words bytes fits in
+  pub item_broken : {b : ℕ} {v : Value} → one ≡ Broke b v → Became (dropped from) run words bytes run' words' bytes'
+      → ItemEnds image h n i from one run words bytes run' words' bytes' (Break (Broke b v))
+  item_broken {b} {v} e x depth =
       rw e (record {
         ways = λ first last.
             out_of _ _
@@ -139,28 +138,29 @@ module _ {image : List ℕ} {h : Header} {n i from : ℕ} {one : Outcome} {run w
 
 -- ---- all items are there; d is node n
 
-module _ {image : List ℕ} {h : Header} {n from : ℕ} {run words run' words' : List ℕ} {r : Outcome} (d : Node) (node : d ≡ node_at image h n) where
-  pub template_done : {bytes bytes' : List ℕ} {got : Result Value WasRefused} → kind_of d.kind ≡ template → Makes got (template_made image h n from) run words bytes run' words' bytes'
-      → r ≡ got_of got → Built image h n from run words bytes run' words' bytes' r
+module _ {image : List ℕ} {h : Header} {n from : ℕ} {run : Run} {words bytes : List ℕ} {run' : Run} {words' bytes' : List ℕ} {r : Outcome} (d : Node) (node : d ≡ node_at image h n) where
+  pub template_done : {got : Result Value WasRefused} → kind_of d.kind ≡ template → Makes got (template_made image h n from) run words bytes run' words' bytes'
+      → r ≡ got_of got → BuiltOf image h n from run words bytes run' words' bytes' r
   template_done k made e depth = rw e (made_post (λ K. template_built refl (rw node at k) refl) made)
 
-  box_done : {bytes : List ℕ} {k : Kind} {box : ℕ → Value} (head : Result ℕ WasRefused) → Boxes k box → kind_of d.kind ≡ k → MakesItems head n from run words run' words'
-      → r ≡ got_of (boxed_by box head) → Built image h n from run words bytes run' words' bytes r
-  box_done {bytes} {box = box} head boxes k made e depth = rw e (made_post (λ K. items_boxed refl boxes (rw node at k) refl) (made box bytes))
+  box_done : {k : Kind} {box : ℕ → Value} (head : Result ℕ WasRefused) → Boxes k box → kind_of d.kind ≡ k
+      → ((box : ℕ → Value) → Makes (boxed_by box head) (items_made box n from) run words bytes run' words' bytes')
+      → r ≡ got_of (boxed_by box head) → BuiltOf image h n from run words bytes run' words' bytes' r
+  box_done {box = box} head boxes k made e depth = rw e (made_post (λ K. items_boxed refl boxes (rw node at k) refl) (made box))
 
-  pub vec_done : {bytes : List ℕ} (head : Result ℕ WasRefused) → d.kind ≡ 13 → MakesItems head n from run words run' words' → r ≡ got_of (boxed_by Vec head)
-      → Built image h n from run words bytes run' words' bytes r
+  pub vec_done : (head : Result ℕ WasRefused) → d.kind ≡ 13 → ((box : ℕ → Value) → Makes (boxed_by box head) (items_made box n from) run words bytes run' words' bytes')
+      → r ≡ got_of (boxed_by Vec head) → BuiltOf image h n from run words bytes run' words' bytes' r
   unfolding kind_of kinds
   vec_done head k = box_done head vec_boxes (ap kind_of k)
 
-  pub tuple_done : {bytes : List ℕ} (head : Result ℕ WasRefused) → d.kind ≡ 14 → MakesItems head n from run words run' words' → r ≡ got_of (boxed_by Tuple head)
-      → Built image h n from run words bytes run' words' bytes r
+  pub tuple_done : (head : Result ℕ WasRefused) → d.kind ≡ 14 → ((box : ℕ → Value) → Makes (boxed_by box head) (items_made box n from) run words bytes run' words' bytes')
+      → r ≡ got_of (boxed_by Tuple head) → BuiltOf image h n from run words bytes run' words' bytes' r
   unfolding kind_of kinds
   tuple_done head k = box_done head tuple_boxes (ap kind_of k)
 
-  pub object_done : {bytes : List ℕ} {got : Result Value WasRefused} → kind_of d.kind ≡ object → MakesWords got (object_made image h n from) run words run' words'
-      → r ≡ got_of got → Built image h n from run words bytes run' words' bytes r
-  object_done {bytes} k made e depth = rw e (made_post (λ K. entries_boxed refl (rw node at k) refl) (made bytes))
+  pub object_done : {got : Result Value WasRefused} → kind_of d.kind ≡ object → Makes got (object_made image h n from) run words bytes run' words' bytes'
+      → r ≡ got_of got → BuiltOf image h n from run words bytes run' words' bytes' r
+  object_done k made e depth = rw e (made_post (λ K. entries_boxed refl (rw node at k) refl) made)
 
 -- a head that is mapped to its box
 pub boxed_is : (box : ℕ → Value) (head : Result ℕ WasRefused) (r : Result Value WasRefused) → MatchResult head (λ k. IsOkAnd r (λ v. v ≡ box k)) (λ e. r ≡ Err e) → r ≡ boxed_by box head
