@@ -27,8 +27,10 @@ use Rattle.rules.specs.Store.{Store, sought, item_at, as_object, as_items, as_si
 use Rattle.rules.specs.Targets.{Wrote, done, refused, refusing, name_place, field_place, index_in, index_place, read_at, after_read, read_target, target_read, part_place, target_place, entered_in, set_place, target_set, assigned, assign_to, assign_place, target_assigned}
 use Rattle.stores.specs.Finding.{found_of}
 use Rattle.boxes.specs.Cells.{field_entered}
-use Rattle.stores.specs.Stores.{store_of, Fits, BecameWords, TriedWords}
-use Rattle.targets.specs.Reading.{Placed, Gets, computed, assigned_of, assigned_value, put_in, field_set, WritesWords}
+use Rattle.stores.specs.Stores.{store_of, Fits, Became, Tried}
+use Rattle.stores.proofs.Chains.{kept_same}
+use Rattle.targets.specs.Reading.{Placed, Gets, computed, assigned_of, assigned_value, put_in, field_set, Writes}
+use Rattle.stores.specs.declared.run.Run.{Run}
 
 abbrev pub option_of : Option ℕ → Maybe ℕ
 option_of (Some i) = some i
@@ -46,7 +48,7 @@ found f o x e = ap f (ap option_of e ∙ back o)
 pub error_is : {A : Type 0} (r : Result A Refused) (e : Refused) → IsErrAnd r (λ x. x ≡ e) → r ≡ Err e
 error_is r e t = let p = err_from_is_err_and r t in p.1 ∙ ap Err p.2
 
-module _ (run words : List ℕ) where
+module _ (run : Run) (words : List ℕ) where
   -- ---- reading
 
   module _ (image : List ℕ) (h : Header) (t : ℕ) where
@@ -165,41 +167,41 @@ module _ (run words : List ℕ) where
         go (no k) (yes f) = f
         go (no k) (no f) = absurd (parted (target_read image h σ (node_at image h t).a) f (rw (ne_eqb (node_at image h t).kind 21 k) at (q.is [])))
 
-    module _ (v : Value) (r : Result (Unit {0}) Refused) (run' words' : List ℕ) (p x : Result Place Refused) (same : p ≡ x) (q : Placed p (λ σ. target_place image h σ t) run words) where
-      pub set_by : WritesWords r (λ σ. set_place image h σ t v x) run words run' words' → WritesWords r (λ σ. target_set image h σ t v) run words run' words'
+    module _ (v : Value) (r : Result (Unit {0}) Refused) (bytes : List ℕ) (run' : Run) (words' bytes' : List ℕ)
+        (p x : Result Place Refused) (same : p ≡ x) (q : Placed p (λ σ. target_place image h σ t) run words) where
+      pub set_by : Writes r (λ σ. set_place image h σ t v x) run words bytes run' words' bytes' → Writes r (λ σ. target_set image h σ t v) run words bytes run' words' bytes'
       unfolding target_set
-      set_by w bytes = record { did = ap (set_place image h (store_of run words bytes) t v) (sym (q.is bytes) ∙ same) ∙ (w bytes).did; undone = (w bytes).undone; kept = (w bytes).kept }
+      set_by w = record { did = ap (set_place image h (store_of run words bytes) t v) (sym (q.is bytes) ∙ same) ∙ w.did; undone = w.undone; kept = w.kept }
 
-      pub assign_by : (n op : ℕ) → WritesWords r (λ σ. assign_place image h σ n op t v x) run words run' words' → WritesWords r (λ σ. target_assigned image h σ n op t v) run words run' words'
+      pub assign_by : (n op : ℕ) → Writes r (λ σ. assign_place image h σ n op t v x) run words bytes run' words' bytes'
+          → Writes r (λ σ. target_assigned image h σ n op t v) run words bytes run' words' bytes'
       unfolding target_assigned
-      assign_by n op w bytes = record { did = ap (assign_place image h (store_of run words bytes) n op t v) (sym (q.is bytes) ∙ same) ∙ (w bytes).did; undone = (w bytes).undone; kept = (w bytes).kept }
+      assign_by n op w = record { did = ap (assign_place image h (store_of run words bytes) n op t v) (sym (q.is bytes) ∙ same) ∙ w.did; undone = w.undone; kept = w.kept }
 
   -- a write that is done, and one that is refused
-  pub wrote : (f : Store → Store) (g : Store → Wrote) (run' words' : List ℕ) → ((bytes : List ℕ) → g (store_of run words bytes) ≡ done (f (store_of run words bytes)))
-      → BecameWords f run words run' words' → WritesWords (Ok tt) g run words run' words'
-  wrote f g run' words' e b bytes =
-      record {
-        did = e bytes ∙ ap done (sym (b bytes).store);
-        undone = λ r z. absurd (cc);
-        kept = (b bytes).kept;
-      }
+  module _ (g : Store → Wrote) (bytes : List ℕ) where
+    pub wrote : (f : Store → Store) (run' : Run) (words' bytes' : List ℕ) → g (store_of run words bytes) ≡ done (f (store_of run words bytes))
+        → Became f run words bytes run' words' bytes' → Writes (Ok tt) g run words bytes run' words' bytes'
+    wrote f run' words' bytes' e b = record { did = e ∙ ap done (sym b.store); undone = λ r z. absurd (cc); kept = b.kept }
 
-  pub refuses : (g : Store → Wrote) (r : Refused) → Fits run words → ((bytes : List ℕ) → g (store_of run words bytes) ≡ refused r.why r.place) → WritesWords (Err r) g run words run words
-  refuses g r f e bytes = record { did = e bytes; undone = λ _ _. refl; kept = record { fits = f; room = refl; takes = refl; rest = refl } }
+    pub refuses : (r : Refused) → Fits run words → g (store_of run words bytes) ≡ refused r.why r.place → Writes (Err r) g run words bytes run words bytes
+    refuses r f e = record { did = e; undone = λ _ _. refl; kept = kept_same f }
 
   -- a new field, or 8 at the target
-  module _ (image : List ℕ) (h : Header) (t owner key : ℕ) (v : Value) (run' words' : List ℕ) (d : Node) (node : d ≡ node_at image h t) (key_is : key ≡ (literal_at image h d.b).payload) where
-    set_is : (b : Bool) → TriedWords b (field_entered owner key v) run words run' words'
-        → (bytes : List ℕ) → field_set image h t owner v (store_of run words bytes) ≡ entered_in t (cond b (some (store_of run' words' bytes)) none)
-    set_is b w bytes =
+  module _ (image : List ℕ) (h : Header) (t owner key : ℕ) (v : Value) (bytes : List ℕ) (run' : Run) (words' bytes' : List ℕ)
+      (d : Node) (node : d ≡ node_at image h t) (key_is : key ≡ (literal_at image h d.b).payload) where
+    set_is : (b : Bool) → Tried b (field_entered owner key v) run words bytes run' words' bytes'
+        → field_set image h t owner v (store_of run words bytes) ≡ entered_in t (cond b (some (store_of run' words' bytes')) none)
+    set_is b w =
         ap (λ (q : ℕ). entered_in t (field_entered owner q v (store_of run words bytes))) (sym (key_is ∙ ap (λ (e : Node). (literal_at image h e.b).payload) node))
-        ∙ ap (entered_in t) (w bytes).did
+        ∙ ap (entered_in t) w.did
 
-    pub field_set_lem : TriedWords true (field_entered owner key v) run words run' words' → WritesWords (Ok tt) (field_set image h t owner v) run words run' words'
-    field_set_lem w bytes = record { did = set_is true w bytes; undone = λ r z. absurd (cc); kept = (w bytes).kept }
+    pub field_set_lem : Tried true (field_entered owner key v) run words bytes run' words' bytes' → Writes (Ok tt) (field_set image h t owner v) run words bytes run' words' bytes'
+    field_set_lem w = record { did = set_is true w; undone = λ r z. absurd (cc); kept = w.kept }
 
-    pub field_not_set : TriedWords false (field_entered owner key v) run words run' words' → WritesWords (Err (refusing Cells t)) (field_set image h t owner v) run words run' words'
-    field_not_set w bytes = record { did = set_is false w bytes; undone = λ _ _. (w bytes).undone refl; kept = (w bytes).kept }
+    pub field_not_set : Tried false (field_entered owner key v) run words bytes run' words' bytes'
+        → Writes (Err (refusing Cells t)) (field_set image h t owner v) run words bytes run' words' bytes'
+    field_not_set w = record { did = set_is false w; undone = λ _ _. w.undone refl; kept = w.kept }
 
 -- a value put at the place of a target that is set
 pub set_at : (image : List ℕ) (h : Header) (t : ℕ) (v : Value) (place : Place) → ((owner : ℕ) → place ≡ Absent owner → ⊥) → (σ : Store) → set_place image h σ t v (Ok place) ≡ done (put_in place v σ)
@@ -243,20 +245,24 @@ module _ (image : List ℕ) (h : Header) (n op t : ℕ) (v : Value) where
       let same : r ≡ refusing MissingField t = cc in
       rw same
 
-  module _ (run words : List ℕ) (place : Place) where
+  module _ (run : Run) (words bytes : List ℕ) (place : Place) where
+    abbrev before : Store
+    before = store_of run words bytes
+
     pub assign_unread : (r : Refused) → Fits run words → Gets (Err r) (λ σ. read_at σ t (Ok place)) run words
-        → WritesWords (Err r) (λ σ. assign_place image h σ n op t v (Ok place)) run words run words
-    assign_unread r f g = refuses run words (λ σ. assign_place image h σ n op t v (Ok place)) r f (λ bytes. not_read (store_of run words bytes) place r (g.is bytes))
+        → Writes (Err r) (λ σ. assign_place image h σ n op t v (Ok place)) run words bytes run words bytes
+    assign_unread r f g = refuses run words (λ σ. assign_place image h σ n op t v (Ok place)) bytes r f (not_read before place r (g.is bytes))
 
     module _ (old : Value) (g : Gets (Ok old) (λ σ. read_at σ t (Ok place)) run words) where
       pub assign_refused : (r : Refused) → Fits run words → Err r ≡ assigned_value n op old v
-          → WritesWords (Err r) (λ σ. assign_place image h σ n op t v (Ok place)) run words run words
+          → Writes (Err r) (λ σ. assign_place image h σ n op t v (Ok place)) run words bytes run words bytes
       assign_refused r f e =
-          refuses run words (λ σ. assign_place image h σ n op t v (Ok place)) r f
-          (λ bytes. let σ = store_of run words bytes in assigned_is σ place old (g.is bytes) ∙ ap (wrote_got (λ x. put_in place x σ)) (sym e))
+          refuses run words (λ σ. assign_place image h σ n op t v (Ok place)) bytes r f
+          (assigned_is before place old (g.is bytes) ∙ ap (wrote_got (λ x. put_in place x before)) (sym e))
 
-      pub assign_done : (words' : List ℕ) (new : Value) → Ok new ≡ assigned_value n op old v → BecameWords (put_in place new) run words run words'
-          → WritesWords (Ok tt) (λ σ. assign_place image h σ n op t v (Ok place)) run words run words'
-      assign_done words' new e b =
-          wrote run words (put_in place new) (λ σ. assign_place image h σ n op t v (Ok place)) run words'
-          (λ bytes. let σ = store_of run words bytes in assigned_is σ place old (g.is bytes) ∙ ap (wrote_got (λ x. put_in place x σ)) (sym e)) b
+      pub assign_done : (run' : Run) (words' bytes' : List ℕ) (new : Value) → Ok new ≡ assigned_value n op old v
+          → Became (put_in place new) run words bytes run' words' bytes'
+          → Writes (Ok tt) (λ σ. assign_place image h σ n op t v (Ok place)) run words bytes run' words' bytes'
+      assign_done run' words' bytes' new e b =
+          wrote run words (λ σ. assign_place image h σ n op t v (Ok place)) bytes (put_in place new) run' words' bytes'
+          (assigned_is before place old (g.is bytes) ∙ ap (wrote_got (λ x. put_in place x before)) (sym e)) b

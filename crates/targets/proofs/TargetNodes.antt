@@ -4,11 +4,9 @@ use mathlib.Core.Bool.{true, false}
 use mathlib.Core.List.{List}
 use Prim.Native.Nat.{ℕ, ◌≤◌, ◌<◌}
 use native.Mathlib.Decide.{ℕ_discrete}
-use native.Mathlib.Nat.{le_refl}
 use native.Mathlib.Omega.{arith}
 use borrow.Author.Tests.{leb-true, ltb-true}
 use lib.Dec.{leb, ltb}
-use lib.ListN.{length}
 use Rattle.fields.proofs.Tests.{and_both}
 use Rattle.std.specs.Prelude.{Ok}
 use Rattle.packed.specs.declared.layout.Header.{Header}
@@ -16,11 +14,11 @@ use Rattle.packed.specs.declared.layout.Node.{Node}
 use Rattle.kinds.specs.declared.Role.{Role}
 use Rattle.kinds.specs.declared.Role.TheVariants.{Node as NodeRole}
 use Rattle.kinds.specs.declared.Class.TheVariants.{Target}
-use Rattle.packed.specs.Layout.{node_at, size_of}
+use Rattle.packed.specs.Layout.{node_at}
 use Rattle.kinds.specs.Kinds.{row_of, table}
 use Rattle.image.specs.Load.{load_of}
 use Rattle.records.specs.Records.{fits}
-use Rattle.image.proofs.Loads.{Reaches, nothing, on, header_right, node_loaded, a_reaches, text_asked}
+use Rattle.image.proofs.Loads.{Reaches, nothing, on, node_loaded, a_reaches, text_asked}
 use Rattle.targets.specs.Reading.{IsTarget}
 
 -- what a node names whose kind asks for a target
@@ -37,9 +35,6 @@ target_of image h n loaded first last row =
     go above (on past end target) = record { loaded = loaded; first = above; last = end; target = target }
 
 module _ (image : List ℕ) (h : Header) (t : ℕ) (is : IsTarget image h t) where
-  pub whole : size_of h ≤ length image
-  whole = subst (λ (n : ℕ). size_of h ≤ n) (sym (header_right image h is.loaded).exact) (le_refl (size_of h))
-
   -- its kind is 21, 22 or 23
   part_row : ((node_at image h t).kind ≡ 21 → ⊥) → (row_of (node_at image h t).kind).a ≡ NodeRole true false Target
   unfolding row_of table

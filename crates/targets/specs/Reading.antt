@@ -18,6 +18,8 @@ use Rattle.rules.specs.declared.Place.TheVariants.{Binding, Cell, Absent}
 use Rattle.rules.specs.Store.{Store, as_signed, rebound, stored_at}
 use Rattle.rules.specs.Targets.{Wrote, done, refused, set_place}
 use Rattle.stores.specs.Stores.{store_of, Kept}
+use Rattle.stores.specs.declared.run.Run.{Run}
+use Rattle.stores.specs.declared.lent.Stores.{Stores}
 
 -- a target of an image that loads
 pub record IsTarget (image : List ℕ) (h : Header) (t : ℕ) : Type 0 where
@@ -27,10 +29,10 @@ pub record IsTarget (image : List ℕ) (h : Header) (t : ℕ) : Type 0 where
   pub target : is_of Target (node_at image h t).kind ≡ true
 
 -- a place, and a value that is got
-pub record Placed (r : Result Place Refused) (f : Store → Result Place Refused) (run words : List ℕ) : Type 0 where
+pub record Placed (r : Result Place Refused) (f : Store → Result Place Refused) (run : Run) (words : List ℕ) : Type 0 where
   pub is : (bytes : List ℕ) → r ≡ f (store_of run words bytes)
 
-pub record Gets (r : Result Value Refused) (f : Store → Result Value Refused) (run words : List ℕ) : Type 0 where
+pub record Gets (r : Result Value Refused) (f : Store → Result Value Refused) (run : Run) (words : List ℕ) : Type 0 where
   pub is : (bytes : List ℕ) → r ≡ f (store_of run words bytes)
 
 -- what an assignment puts: "both must be signed, else 19"; 16 to 18 stand at the assign, node n
@@ -63,10 +65,10 @@ abbrev pub wrote_by : Result (Unit {0}) Refused → Store → Wrote
 wrote_by (Ok done_so) σ = done σ
 wrote_by (Err e) σ = refused e.why e.place
 
-pub record Writes (r : Result (Unit {0}) Refused) (f : Store → Wrote) (run words bytes run' words' bytes' : List ℕ) : Type 0 where
+pub record Writes (r : Result (Unit {0}) Refused) (f : Store → Wrote) (run : Run) (words bytes : List ℕ) (run' : Run) (words' bytes' : List ℕ) : Type 0 where
   pub did : f (store_of run words bytes) ≡ wrote_by r (store_of run' words' bytes')
   pub undone : (e : Refused) → r ≡ Err e → store_of run' words' bytes' ≡ store_of run words bytes
   pub kept : Kept run bytes run' words' bytes'
 
-abbrev pub WritesWords : Result (Unit {0}) Refused → (Store → Wrote) → List ℕ → List ℕ → List ℕ → List ℕ → Type 0
-WritesWords r f run words run' words' = (bytes : List ℕ) → Writes r f run words bytes run' words' bytes
+abbrev pub StoresWrote : Result (Unit {0}) Refused → (Store → Wrote) → Stores → Stores → Type 0
+StoresWrote r f s s' = Writes r f s.run s.words.now s.bytes.now s'.run s'.words.now s'.bytes.now

@@ -1,25 +1,25 @@
 // Targets, as interpreter.rs has them: what a name, a field or an index names, read, set and assigned.
 #![tactic(auto)]
 
-ghost use Rattle.std.specs.Prelude.{◌≡◌, ◌≤◌, ◌<◌, Ok, length};
-ghost use Rattle.packed.specs.Layout.{size_of, node_at};
+ghost use Rattle.std.specs.Prelude.{◌≡◌, ◌<◌, Ok};
+ghost use Rattle.packed.specs.Layout.{node_at};
 ghost use Rattle.rules.specs.Store.{sought, item_at, as_object, as_items};
 ghost use Rattle.rules.specs.Targets.{name_place, field_place, index_in, index_place, read_at, read_target, target_read, target_place, target_set, target_assigned};
-ghost use Rattle.stores.specs.Stores.{Fits, BecameWords};
-ghost use Rattle.targets.specs.Reading.{IsTarget, Placed, Gets, assigned_value, put_in, field_set, WritesWords};
+ghost use Rattle.stores.specs.Lent.{StoresBecame};
+ghost use Rattle.targets.specs.Reading.{IsTarget, Placed, Gets, assigned_value, put_in, field_set, StoresWrote};
 
 use bindings::{bound_at, look_up, rebind};
 use boxes::{cell_at, enter_field, entry_at, item_at, store_cell};
 use numbers::{OpError, assign_int};
-use packed::layout::{Header, node_at};
+use packed::image::Image;
 use rules::{Place, Refusal, Refused, Value};
 use slots::literals::key_of;
+use stores::lent::Stores;
 
-fn name_place(words: &[u64], run: &[u64; 16], at: u16, name: u16) -> Result<Place, Refused>
-    requires { Fits run.now words.now }
-    ensures { Placed result (λ σ. name_place at (sought σ name)) run.now words.now }
+fn name_place(stores: &Stores, at: u16, name: u16) -> Result<Place, Refused>
+    ensures { Placed result (λ σ. name_place at (sought σ name)) stores.now.run stores.now.words.now }
 {
-    match look_up(words, run, name) {
+    match look_up(stores, name) {
         Some(i) => Ok(Place::Binding(i)),
         None => Err(Refused {
             why: Refusal::MissingName,
@@ -29,17 +29,9 @@ fn name_place(words: &[u64], run: &[u64; 16], at: u16, name: u16) -> Result<Plac
 }
 
 // The field of v whose key is literal l.
-fn field_place(
-    image: &[u8],
-    h: Header,
-    words: &[u64],
-    run: &[u64; 16],
-    at: u16,
-    l: u16,
-    v: Value,
-) -> Result<Place, Refused>
-    requires { (l < h.literals) × (size_of h ≤ length image.now) × Fits run.now words.now }
-    ensures { Placed result (λ σ. field_place image.now h σ at l (as_object v)) run.now words.now }
+fn field_place(image: &Image, stores: &Stores, at: u16, l: u16, v: Value) -> Result<Place, Refused>
+    requires { (l < image.now.header.literals) }
+    ensures { Placed result (λ σ. field_place image.now.bytes.now image.now.header σ at l (as_object v)) stores.now.run stores.now.words.now }
 {
     let Value::Object(owner) = v else {
         return Err(Refused {
@@ -47,22 +39,15 @@ fn field_place(
             place: at,
         });
     };
-    match entry_at(image, h, words, run, owner, key_of(image, h, l)) {
+    match entry_at(image, stores, owner, key_of(image, l)) {
         Some(i) => Ok(Place::Cell(i)),
         None => Ok(Place::Absent(owner)),
     }
 }
 
 // The item of v of that index.
-fn index_place(
-    words: &[u64],
-    run: &[u64; 16],
-    at: u16,
-    index: u16,
-    v: Value,
-) -> Result<Place, Refused>
-    requires { Fits run.now words.now }
-    ensures { Placed result (λ σ. index_place σ at index (as_items v)) run.now words.now }
+fn index_place(stores: &Stores, at: u16, index: u16, v: Value) -> Result<Place, Refused>
+    ensures { Placed result (λ σ. index_place σ at index (as_items v)) stores.now.run stores.now.words.now }
 {
     let (Value::Vec(owner) | Value::Tuple(owner)) = v else {
         return Err(Refused {
@@ -70,7 +55,7 @@ fn index_place(
             place: at,
         });
     };
-    match item_at(words, run, owner, index) {
+    match item_at(stores, owner, index) {
         Some(i) => Ok(Place::Cell(i)),
         None => Err(Refused {
             why: Refusal::MissingIndex,
@@ -80,13 +65,12 @@ fn index_place(
 }
 
 // What stands at a place that is read: an absent field is 21.
-fn read_at(words: &[u64], run: &[u64; 16], at: u16, place: Place) -> Result<Value, Refused>
-    requires { Fits run.now words.now }
-    ensures { Gets result (λ σ. read_at σ at (Ok place)) run.now words.now }
+fn read_at(stores: &Stores, at: u16, place: Place) -> Result<Value, Refused>
+    ensures { Gets result (λ σ. read_at σ at (Ok place)) stores.now.run stores.now.words.now }
 {
     match place {
-        Place::Binding(i) => Ok(bound_at(words, run, i)),
-        Place::Cell(i) => Ok(cell_at(words, run, i)),
+        Place::Binding(i) => Ok(bound_at(stores, i)),
+        Place::Cell(i) => Ok(cell_at(stores, i)),
         Place::Absent(_) => Err(Refused {
             why: Refusal::MissingField,
             place: at,
@@ -95,16 +79,9 @@ fn read_at(words: &[u64], run: &[u64; 16], at: u16, place: Place) -> Result<Valu
 }
 
 // The target at node t, of fewer than `most` parts.
-fn read_most(
-    image: &[u8],
-    h: Header,
-    words: &[u64],
-    run: &[u64; 16],
-    most: u8,
-    t: u16,
-) -> Result<Value, Refused>
-    requires { IsTarget image.now h t × Fits run.now words.now }
-    ensures { Gets result (λ σ. read_target image.now h σ most t) run.now words.now }
+fn read_most(image: &Image, stores: &Stores, most: u8, t: u16) -> Result<Value, Refused>
+    requires { IsTarget image.now.bytes.now image.now.header t }
+    ensures { Gets result (λ σ. read_target image.now.bytes.now image.now.header σ most t) stores.now.run stores.now.words.now }
 {
     if most == 0 {
         return Err(Refused {
@@ -112,83 +89,70 @@ fn read_most(
             place: t,
         });
     }
-    let node = node_at(image, h, t as usize);
+    let node = image.node(t as usize);
     if node.kind == 21 {
-        let place = name_place(words, run, t, node.tag)?;
-        return read_at(words, run, t, place);
+        let place = name_place(stores, t, node.tag)?;
+        return read_at(stores, t, place);
     }
-    let v = read_most(image, h, words, run, most - 1, node.a)?;
+    let v = read_most(image, stores, most - 1, node.a)?;
     if node.kind == 22 {
-        let place = field_place(image, h, words, run, node.a, node.b, v)?;
-        return read_at(words, run, node.a, place);
+        let place = field_place(image, stores, node.a, node.b, v)?;
+        return read_at(stores, node.a, place);
     }
-    let place = index_place(words, run, t, node.b, v)?;
-    read_at(words, run, t, place)
+    let place = index_place(stores, t, node.b, v)?;
+    read_at(stores, t, place)
 }
 
 // What the target at node t gives.
-pub fn get_target(
-    image: &[u8],
-    h: Header,
-    words: &[u64],
-    run: &[u64; 16],
-    t: u16,
-) -> Result<Value, Refused>
-    requires { IsTarget image.now h t × Fits run.now words.now }
-    ensures { Gets result (λ σ. target_read image.now h σ t) run.now words.now }
+pub fn get_target(image: &Image, stores: &Stores, t: u16) -> Result<Value, Refused>
+    requires { IsTarget image.now.bytes.now image.now.header t }
+    ensures { Gets result (λ σ. target_read image.now.bytes.now image.now.header σ t) stores.now.run stores.now.words.now }
 {
-    read_most(image, h, words, run, 65, t)
+    read_most(image, stores, 65, t)
 }
 
 // Where the target at node t stands when it is written: what stands before its last part is read.
-fn target_place(
-    image: &[u8],
-    h: Header,
-    words: &[u64],
-    run: &[u64; 16],
-    t: u16,
-) -> Result<Place, Refused>
-    requires { IsTarget image.now h t × Fits run.now words.now }
-    ensures { Placed result (λ σ. target_place image.now h σ t) run.now words.now }
+fn target_place(image: &Image, stores: &Stores, t: u16) -> Result<Place, Refused>
+    requires { IsTarget image.now.bytes.now image.now.header t }
+    ensures { Placed result (λ σ. target_place image.now.bytes.now image.now.header σ t) stores.now.run stores.now.words.now }
 {
-    let node = node_at(image, h, t as usize);
+    let node = image.node(t as usize);
     if node.kind == 21 {
-        return name_place(words, run, t, node.tag);
+        return name_place(stores, t, node.tag);
     }
-    let v = get_target(image, h, words, run, node.a)?;
+    let v = get_target(image, stores, node.a)?;
     if node.kind == 22 {
-        return field_place(image, h, words, run, t, node.b, v);
+        return field_place(image, stores, t, node.b, v);
     }
-    index_place(words, run, t, node.b, v)
+    index_place(stores, t, node.b, v)
 }
 
 // A value put at a place; a field that is absent has none.
-fn put_at(words: &mut [u64], run: &[u64; 16], place: Place, v: Value)
-    requires { Fits run.now words.old }
-    ensures { BecameWords (put_in place v) run.now words.old run.now words.new }
+fn put_at(stores: &mut Stores, place: Place, v: Value)
+    ensures store { StoresBecame (put_in place v) stores.old stores.new }
+    ensures bytes { stores.new.bytes.now ≡ stores.old.bytes.now }
 {
     match place {
-        Place::Binding(i) => rebind(words, run, i, v),
-        Place::Cell(i) => store_cell(words, run, i, v),
+        Place::Binding(i) => rebind(stores, i, v),
+        Place::Cell(i) => store_cell(stores, i, v),
         Place::Absent(_) => {}
     }
 }
 
 // A field that its object does not have, entered: target t is a field.
 fn set_field(
-    image: &[u8],
-    h: Header,
-    words: &mut [u64],
-    run: &mut [u64; 16],
+    image: &Image,
+    stores: &mut Stores,
     t: u16,
     owner: u32,
     v: Value,
 ) -> Result<(), Refused>
-    requires { IsTarget image.now h t × ((node_at image.now h t).kind ≡ 22) × Fits run.old words.old }
-    ensures { WritesWords result (field_set image.now h t owner v) run.old words.old run.new words.new }
+    requires { IsTarget image.now.bytes.now image.now.header t × ((node_at image.now.bytes.now image.now.header t).kind ≡ 22) }
+    ensures store { StoresWrote result (field_set image.now.bytes.now image.now.header t owner v) stores.old stores.new }
+    ensures bytes { stores.new.bytes.now ≡ stores.old.bytes.now }
 {
-    let node = node_at(image, h, t as usize);
-    if enter_field(words, run, owner, key_of(image, h, node.b), v) {
+    let node = image.node(t as usize);
+    if enter_field(stores, owner, key_of(image, node.b), v) {
         return Ok(());
     }
     Err(Refused {
@@ -198,22 +162,16 @@ fn set_field(
 }
 
 // Any value put at the target t; a field that is absent is entered.
-pub fn set_target(
-    image: &[u8],
-    h: Header,
-    words: &mut [u64],
-    run: &mut [u64; 16],
-    t: u16,
-    v: Value,
-) -> Result<(), Refused>
-    requires { IsTarget image.now h t × Fits run.old words.old }
-    ensures { WritesWords result (λ σ. target_set image.now h σ t v) run.old words.old run.new words.new }
+pub fn set_target(image: &Image, stores: &mut Stores, t: u16, v: Value) -> Result<(), Refused>
+    requires { IsTarget image.now.bytes.now image.now.header t }
+    ensures store { StoresWrote result (λ σ. target_set image.now.bytes.now image.now.header σ t v) stores.old stores.new }
+    ensures bytes { stores.new.bytes.now ≡ stores.old.bytes.now }
 {
-    let place = target_place(image, h, words, run, t)?;
+    let place = target_place(image, stores, t)?;
     if let Place::Absent(owner) = place {
-        return set_field(image, h, words, run, t, owner, v);
+        return set_field(image, stores, t, owner, v);
     }
-    put_at(words, run, place, v);
+    put_at(stores, place, v);
     Ok(())
 }
 
@@ -243,21 +201,20 @@ fn assign_value(n: u16, op: u8, old: Value, v: Value) -> Result<Value, Refused>
 
 // Assign n: what stands at the target t and v are signed, and the operation's result is put there.
 pub fn assign_target(
-    image: &[u8],
-    h: Header,
-    words: &mut [u64],
-    run: &[u64; 16],
+    image: &Image,
+    stores: &mut Stores,
     n: u16,
     op: u8,
     t: u16,
     v: Value,
 ) -> Result<(), Refused>
-    requires { IsTarget image.now h t × Fits run.now words.old }
-    ensures { WritesWords result (λ σ. target_assigned image.now h σ n op t v) run.now words.old run.now words.new }
+    requires { IsTarget image.now.bytes.now image.now.header t }
+    ensures store { StoresWrote result (λ σ. target_assigned image.now.bytes.now image.now.header σ n op t v) stores.old stores.new }
+    ensures bytes { stores.new.bytes.now ≡ stores.old.bytes.now }
 {
-    let place = target_place(image, h, words, run, t)?;
-    let old = read_at(words, run, t, place)?;
+    let place = target_place(image, stores, t)?;
+    let old = read_at(stores, t, place)?;
     let new = assign_value(n, op, old, v)?;
-    put_at(words, run, place, new);
+    put_at(stores, place, new);
     Ok(())
 }

@@ -1,12 +1,11 @@
 -- Its node is a field of an image that loads.
 use mathlib.Core.Path.{ap, ◌∙◌}
 use Rattle.packed.specs.declared.layout.Node.{Node}
-use Rattle.targets.proofs.TargetNodes.{whole, key_there}
+use Rattle.targets.proofs.TargetNodes.{key_there}
 use Rattle.targets.proofs.set_field.Goals as goal
 
-pub node_at-node-requires : goal.node_at-node-requires
-node_at-node-requires c = (c.requires.0.first, c.requires.0.last, whole _ _ _ c.requires.0)
+pub node-node-requires : goal.node-node-requires
+node-node-requires c = (c.requires.0.first, c.requires.0.last)
 
 pub key_of-requires : goal.key_of-requires
-key_of-requires c =
-    (key_there _ _ _ c.requires.0 _ c.node_at-node.ensures (ap (λ (d : Node). d.kind) c.node_at-node.ensures ∙ c.requires.1), whole _ _ _ c.requires.0)
+key_of-requires c = key_there _ _ _ c.requires.0 _ c.node-node.ensures (ap (λ (d : Node). d.kind) c.node-node.ensures ∙ c.requires.1)
