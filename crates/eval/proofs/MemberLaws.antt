@@ -4,7 +4,6 @@ use native.Mathlib.Omega.{arith}
 use mathlib.Core.Path.{◌≡◌, refl, sym, ap, subst, ◌∙◌}
 use mathlib.Core.Bool.{Bool, true, false}
 use mathlib.Core.Option.{Option, some, none}
-use mathlib.Core.Logic.{inl, inr}
 use mathlib.Core.List.{List, [], ◌∷◌, ◌++◌}
 use native.Mathlib.Decide.{ℕ_discrete}
 use borrow.Author.Tests.{eq-eqb, ne_eqb}
@@ -24,16 +23,11 @@ use Rattle.stores.specs.Stores.{store_of, takes_of, scope_of, floor_of, pending_
 use Rattle.stores.proofs.PendingLaws.{length-pending}
 use Rattle.outcomes.specs.declared.Outcome.{Outcome}
 use Rattle.outcomes.specs.declared.Outcome.TheVariants.{Done, Broke, Refused, Spent}
-use Rattle.outcomes.specs.declared.Progress.{Progress}
-use Rattle.outcomes.specs.declared.Progress.TheVariants.{On, Out}
-use Rattle.frames.specs.declared.Told.{Told}
-use Rattle.frames.specs.declared.Told.TheVariants.{Holds, Fails, Out as ToldOut}
+use Rattle.std.specs.declared.ops.ControlFlow.{ControlFlow}
+use Rattle.std.specs.declared.ops.ControlFlow.TheVariants.{Continue, Break}
 use Rattle.outcomes.specs.Post.{Ready, Post, Advance, After, AfterOn, AfterText, AfterWords, EveryAfterRun, Falls}
 use Rattle.std.proofs.Common.{Ok}
 use Rattle.image.specs.Load.{load_of}
-use types.Run.{OneOf, miss}
-use denote.Enum.Declared.{tag_of}
-use Rattle.outcomes.specs.contracts.Progress.{the_type as progress-type}
 use Rattle.entering.specs.Entering.{Entered, BodyEntered}
 use Rattle.outcomes.specs.Outcomes.{IsBreak}
 use Rattle.frames.specs.Loops.{told_by, told_of, PassOver}
@@ -46,7 +40,7 @@ use Rattle.items.specs.Gathering.{Gathers, built, called, templates, vecs, tuple
 
 -- on to a control with frames of its own; it goes on there
 abbrev pub Reached : List ℕ → Header → Ctl → List Frame → List ℕ → List ℕ → List ℕ → Ctl → List Frame → List ℕ → List ℕ → List ℕ → Type 0
-Reached image h t₀ fs₀ run words bytes t fs run₁ words₁ bytes₁ = Advance image h t₀ fs₀ t fs run words bytes run₁ words₁ bytes₁ On
+Reached image h t₀ fs₀ run words bytes t fs run₁ words₁ bytes₁ = Advance image h t₀ fs₀ t fs run words bytes run₁ words₁ bytes₁ (Continue tt)
 
 -- ---- ways put together
 
@@ -68,7 +62,7 @@ module _ {image : List ℕ} {h : Header} where
     became t fs p b = record { ways = record { path = λ K. rw (b.kept.takes, b.store) (p K) }; fits = b.kept.fits; room = b.kept.room }
 
     module _ {run₁ words₁ bytes₁ run₂ words₂ bytes₂ : List ℕ} where
-      pub on_then : {t₁ t : Ctl} {fs₁ fs : List Frame} {r : Progress} → Reached image h t₀ fs₀ run words bytes t₁ fs₁ run₁ words₁ bytes₁
+      pub on_then : {t₁ t : Ctl} {fs₁ fs : List Frame} {r : ControlFlow Outcome (Unit {0})} → Reached image h t₀ fs₀ run words bytes t₁ fs₁ run₁ words₁ bytes₁
           → Advance image h t₁ fs₁ t fs run₁ words₁ bytes₁ run₂ words₂ bytes₂ r → Advance image h t₀ fs₀ t fs run words bytes run₂ words₂ bytes₂ r
       on_then p q = advance_then p.ways p.room q
 
@@ -90,7 +84,7 @@ module _ {image : List ℕ} {h : Header} where
             → Post image h t₀ fs₀ run words bytes run₃ words₃ bytes₃ r
         on_after one p q a = post_after one p.ways p.room q a
 
-        pub on_after_on : (one : Outcome) {t : Ctl} {r : Progress} → Reached image h t₀ fs₀ run words bytes t₁ fs run₁ words₁ bytes₁
+        pub on_after_on : (one : Outcome) {t : Ctl} {r : ControlFlow Outcome (Unit {0})} → Reached image h t₀ fs₀ run words bytes t₁ fs run₁ words₁ bytes₁
             → Post image h t₁ [] run₁ words₁ bytes₁ run₂ words₂ bytes₂ one → AfterOn image h fs t one run₂ words₂ bytes₂ run₃ words₃ bytes₃ r
             → Advance image h t₀ fs₀ t [] run words bytes run₃ words₃ bytes₃ r
         on_after_on one p q a = advance_after one p.ways p.room q a
@@ -102,19 +96,13 @@ module _ {image : List ℕ} {h : Header} where
           → Reached image h t₀ fs₀ run words bytes t fs run₁ words₁ bytes₁
       via t fs p q = on_then p (record { ways = record { path = q }; fits = p.fits; room = refl })
 
-      pub on_is : {t : Ctl} {fs : List Frame} {r : Progress} → Advance image h t₀ fs₀ t fs run words bytes run₁ words₁ bytes₁ r → r ≡ On
+      pub on_is : {t : Ctl} {fs : List Frame} {r : ControlFlow Outcome (Unit {0})} → Advance image h t₀ fs₀ t fs run words bytes run₁ words₁ bytes₁ r → r ≡ Continue tt
           → Reached image h t₀ fs₀ run words bytes t fs run₁ words₁ bytes₁
       on_is {t} {fs} a e = subst (Advance image h t₀ fs₀ t fs run words bytes run₁ words₁ bytes₁) e a
 
-      pub out_is : {t : Ctl} {fs : List Frame} {r : Progress} {x : Outcome} → Advance image h t₀ fs₀ t fs run words bytes run₁ words₁ bytes₁ r → r ≡ Out x
+      pub out_is : {t : Ctl} {fs : List Frame} {r : ControlFlow Outcome (Unit {0})} {x : Outcome} → Advance image h t₀ fs₀ t fs run words bytes run₁ words₁ bytes₁ r → r ≡ Break x
           → Post image h t₀ fs₀ run words bytes run₁ words₁ bytes₁ x
       out_is {t} {fs} a e = of_out (subst (Advance image h t₀ fs₀ t fs run words bytes run₁ words₁ bytes₁) e a)
-
-      -- what is out is out wherever it would have gone on
-      pub still_out : {t t' : Ctl} {fs fs' : List Frame} {r : Progress} → Advance image h t₀ fs₀ t fs run words bytes run₁ words₁ bytes₁ r
-          → OneOf (1 ∷ []) (tag_of progress-type r) → Advance image h t₀ fs₀ t' fs' run words bytes run₁ words₁ bytes₁ r
-      still_out {r = On} a not_on = absurd (miss (1 ∷ []) 0 tt not_on)
-      still_out {r = Out x} a not_on = record { ways = a.ways; fits = a.fits; room = a.room }
 
       pub value_is : {v : Value} → Reached image h t₀ fs₀ run words bytes (ret v) [] run₁ words₁ bytes₁ → Post image h t₀ fs₀ run words bytes run₁ words₁ bytes₁ (Done v)
       value_is p = record { ways = p.ways; fits = p.fits; room = p.room }
@@ -131,21 +119,21 @@ module _ {image : List ℕ} {h : Header} where
 module _ {image : List ℕ} {h : Header} where
   -- ---- entering
 
-  module _ {t₀ : Ctl} {n d : ℕ} {run run₁ words : List ℕ} {x : Progress} (en : Entered image h t₀ n d run run₁ x) (fits : Fits run words) where
-    pub entered_post : {bytes run₂ words₂ bytes₂ : List ℕ} {r : Outcome} → x ≡ On
+  module _ {t₀ : Ctl} {n d : ℕ} {run run₁ words : List ℕ} {x : ControlFlow Outcome (Unit {0})} (en : Entered image h t₀ n d run run₁ x) (fits : Fits run words) where
+    pub entered_post : {bytes run₂ words₂ bytes₂ : List ℕ} {r : Outcome} → x ≡ Continue tt
         → Post image h (work n d) [] run₁ words bytes run₂ words₂ bytes₂ r → Post image h t₀ [] run words bytes run₂ words₂ bytes₂ r
     entered_post {bytes} e q = on_post (on_is (en.advance words bytes fits) e) q
 
-    pub entered_out : {bytes : List ℕ} {r : Outcome} → x ≡ Out r → Post image h t₀ [] run words bytes run₁ words bytes r
+    pub entered_out : {bytes : List ℕ} {r : Outcome} → x ≡ Break r → Post image h t₀ [] run words bytes run₁ words bytes r
     entered_out {bytes} e = out_is (en.advance words bytes fits) e
 
     pub entered_fits : Fits run₁ words
     entered_fits = (en.advance words [] fits).fits
 
-    pub entered_less : Enters t₀ n d → x ≡ On → takes_of run₁ < takes_of run
+    pub entered_less : Enters t₀ n d → x ≡ Continue tt → takes_of run₁ < takes_of run
     entered_less enters e = entered_falls enters works (on_is (en.advance words [] fits) e)
 
-  pub body_entering : {n m d : ℕ} {run words bytes run₁ : List ℕ} {x : Progress} → Ready image h n run words bytes → BodyEntered m d run run₁ x
+  pub body_entering : {n m d : ℕ} {run words bytes run₁ : List ℕ} {x : ControlFlow Outcome (Unit {0})} → Ready image h n run words bytes → BodyEntered m d run run₁ x
       → Entered image h (enter_body m d) m d run run₁ x
   body_entering r b = b image h
 
@@ -260,18 +248,18 @@ module _ {image : List ℕ} {h : Header} where
             let itself : m ≡ i = e ∙ rw (ne_eqb (node_at image h n).kind 15 other) refl in
             moves (enter m (d + 1)) (item_of n i d p ∷ []) fits (λ K. rw itself (item_entered more k other))
 
-    pub item_done : {m : ℕ} {run₁ words₁ bytes₁ run₂ words₂ : List ℕ} (one : Outcome) {r : Progress} → ((node_at image h i).kind ≡ 17 → ⊥) → m ≡ item_node image h n i
+    pub item_done : {m : ℕ} {run₁ words₁ bytes₁ run₂ words₂ : List ℕ} (one : Outcome) {r : ControlFlow Outcome (Unit {0})} → ((node_at image h i).kind ≡ 17 → ⊥) → m ≡ item_node image h n i
         → Post image h (enter m (d + 1)) [] run words bytes run₁ words₁ bytes₁ one → ItemOver image h n i p one run₁ words₁ run₂ words₂ r
         → Advance image h (items n i d p) [] (items n (onward image h i) d p) [] run words bytes run₂ words₂ bytes₁ r
     item_done {m} {bytes₁ = bytes₁} one k e q a = on_after_on one (item_way m k e) q (a d bytes₁)
 
   -- ---- calls
 
-  module _ {n d p : ℕ} {run words bytes run₁ words₁ : List ℕ} {x : Progress} (en : CallEntered image h n p run words run₁ words₁ x) where
-    pub call_refused : {r : Outcome} → x ≡ Out r → Post image h (items n 0 d p) [] run words bytes run₁ words₁ bytes r
+  module _ {n d p : ℕ} {run words bytes run₁ words₁ : List ℕ} {x : ControlFlow Outcome (Unit {0})} (en : CallEntered image h n p run words run₁ words₁ x) where
+    pub call_refused : {r : Outcome} → x ≡ Break r → Post image h (items n 0 d p) [] run words bytes run₁ words₁ bytes r
     call_refused e = out_is (en d bytes) e
 
-    pub call_done : {m s f : ℕ} {run₂ words₂ bytes₂ run₃ : List ℕ} (one : Outcome) {r : Outcome} → x ≡ On → m ≡ (function_at image (node_at image h n).tag).body
+    pub call_done : {m s f : ℕ} {run₂ words₂ bytes₂ run₃ : List ℕ} (one : Outcome) {r : Outcome} → x ≡ Continue tt → m ≡ (function_at image (node_at image h n).tag).body
         → s ≡ scope_of run → f ≡ floor_of run → Post image h (enter m (d + 1)) [] run₁ words₁ bytes run₂ words₂ bytes₂ one
         → EveryAfterRun (call_of s f p ∷ []) one run₂ run₃ r → Post image h (items n 0 d p) [] run words bytes run₃ words₂ bytes₂ r
     call_done {m} {s} {f} {words₂ = words₂} {bytes₂ = bytes₂} one e me se fe q a =
@@ -290,62 +278,41 @@ module _ {image : List ℕ} {h : Header} where
         → Post image h (test c d) [] run words bytes run₂ words₂ bytes₁ r
     let_done {m} one k e q a = on_after one (moves (enter m (d + 1)) (let_of c ∷ []) fits (λ K. rw e (let_entered k))) q (a bytes₁)
 
-abbrev progress_number : Progress → ℕ
-progress_number On = 0
-progress_number (Out r) = 1
-
 -- ---- what a condition told
 
-abbrev told_number : Told → ℕ
-told_number Holds = 0
-told_number Fails = 1
-told_number (ToldOut r) = 2
-
-abbrev tells : Bool → Told
-tells true = Holds
-tells false = Fails
-
-told_by_lem : (c : ℕ) (b : Bool) (x : Option Bool) → told_by c x ≡ tells b → x ≡ some b
-told_by_lem c true none e = absurd (omega (arith, ap told_number e))
-told_by_lem c false none e = absurd (omega (arith, ap told_number e))
-told_by_lem c true (some true) e = refl
-told_by_lem c false (some true) e = absurd (omega (arith, ap told_number e))
-told_by_lem c true (some false) e = absurd (omega (arith, ap told_number e))
-told_by_lem c false (some false) e = refl
+told_by_lem : (c : ℕ) (holds b : Bool) (x : Option Bool) → told_by c x ≡ Continue holds → holds ≡ b → x ≡ some b
+told_by_lem c holds b none e k = cc
+told_by_lem c holds b (some x) e k = cc
 
 -- a condition that tells has a value
-told_value : (c : ℕ) (b : Bool) (one : Outcome) → told_of c one ≡ tells b → (R : Type 0) → ((v : Value) → one ≡ Done v → as_bool v ≡ some b → R) → R
-told_value c b (Done v) e R k = k v refl (told_by_lem c b (as_bool v) e)
-told_value c true (Broke x v) e R k = absurd (omega (arith, ap told_number e))
-told_value c false (Broke x v) e R k = absurd (omega (arith, ap told_number e))
-told_value c true (Refused why place) e R k = absurd (omega (arith, ap told_number e))
-told_value c false (Refused why place) e R k = absurd (omega (arith, ap told_number e))
-told_value c true (Spent place) e R k = absurd (omega (arith, ap told_number e))
-told_value c false (Spent place) e R k = absurd (omega (arith, ap told_number e))
-
-abbrev outcome_of : Told → Outcome
-outcome_of Holds = Spent 0
-outcome_of Fails = Spent 0
-outcome_of (ToldOut r) = r
+told_value : (c : ℕ) (holds b : Bool) (one : Outcome) → told_of c one ≡ Continue holds → holds ≡ b → (v : Value) × (one ≡ Done v) × (as_bool v ≡ some b)
+told_value c holds b (Done v) e k = (v, refl, told_by_lem c holds b (as_bool v) e k)
+told_value c holds b (Broke x v) e k = cc
+told_value c holds b (Refused why place) e k = cc
+told_value c holds b (Spent place) e k = cc
 
 module _ {image : List ℕ} {h : Header} {t₀ : Ctl} {fs₀ : List Frame} {run words bytes run₁ words₁ bytes₁ run₂ words₂ bytes₂ : List ℕ} {c d : ℕ} where
   -- one that is out: no bool, or no value
-  told_out : (fs : List Frame) (one : Outcome) {r : Outcome} → all_pass fs ≡ true → told_of c one ≡ ToldOut r
+  told_out : (fs : List Frame) (one : Outcome) {r : Outcome} → all_pass fs ≡ true → told_of c one ≡ Break r
       → Reached image h t₀ fs₀ run words bytes (test c d) fs run₁ words₁ bytes₁ → Post image h (test c d) [] run₁ words₁ bytes₁ run₂ words₂ bytes₂ one
       → ((v : Value) → as_bool v ≡ none → (K : List Frame) → Go image h (takes_of run₂) (going (ret v) (fs ++ K) (store_of run₂ words₂ bytes₂)) (takes_of run₂) (stop NotBool c))
       → Post image h t₀ fs₀ run words bytes run₂ words₂ bytes₂ r
   told_out fs (Done v) {r} pass e p q k = go (as_bool v) refl e
     where
-      go : (x : Option Bool) → as_bool v ≡ x → told_by c x ≡ ToldOut r → Post image h t₀ fs₀ run words bytes run₂ words₂ bytes₂ r
-      go none z y = subst (Post image h t₀ fs₀ run words bytes run₂ words₂ bytes₂) (ap outcome_of y) (on_post (on_value refl p q) (refused (k v z) q.fits refl))
-      go (some true) z y = absurd (omega (arith, ap told_number y))
-      go (some false) z y = absurd (omega (arith, ap told_number y))
-  told_out fs (Broke b v) pass e p q k =
-      subst (Post image h t₀ fs₀ run words bytes run₂ words₂ bytes₂) (ap outcome_of e) (on_past fs pass (inl refl) p q)
-  told_out fs (Refused why place) pass e p q k =
-      subst (Post image h t₀ fs₀ run words bytes run₂ words₂ bytes₂) (ap outcome_of e) (on_past fs pass (inr (inl refl)) p q)
-  told_out fs (Spent place) pass e p q k =
-      subst (Post image h t₀ fs₀ run words bytes run₂ words₂ bytes₂) (ap outcome_of e) (on_past fs pass (inr (inr refl)) p q)
+      go : (x : Option Bool) → as_bool v ≡ x → told_by c x ≡ Break r → Post image h t₀ fs₀ run words bytes run₂ words₂ bytes₂ r
+      go none z y =
+          let is : ◌≡◌ {A = Outcome} (Refused NotBool c) r = cc in
+          subst (Post image h t₀ fs₀ run words bytes run₂ words₂ bytes₂) is (on_post (on_value refl p q) (refused (k v z) q.fits refl))
+      go (some x) z y = cc
+  told_out fs (Broke b v) {r} pass e p q k =
+      let is : ◌≡◌ {A = Outcome} (Broke b v) r = cc in
+      subst (Post image h t₀ fs₀ run words bytes run₂ words₂ bytes₂) is (on_past fs pass (λ x z. cc) p q)
+  told_out fs (Refused why place) {r} pass e p q k =
+      let is : ◌≡◌ {A = Outcome} (Refused why place) r = cc in
+      subst (Post image h t₀ fs₀ run words bytes run₂ words₂ bytes₂) is (on_past fs pass (λ x z. cc) p q)
+  told_out fs (Spent place) {r} pass e p q k =
+      let is : ◌≡◌ {A = Outcome} (Spent place) r = cc in
+      subst (Post image h t₀ fs₀ run words bytes run₂ words₂ bytes₂) is (on_past fs pass (λ x z. cc) p q)
 
 module _ {image : List ℕ} {h : Header} where
   -- ---- branches
@@ -356,19 +323,19 @@ module _ {image : List ℕ} {h : Header} where
     unfolding store_of
     arm_way = became (test c d) (arm_of n i d s ∷ []) (λ K. rw (ce, se) (arm_tested more)) (b words bytes fits)
 
-    pub arm_holds : told_of c one ≡ Holds
+    pub arm_holds : {holds : Bool} → told_of c one ≡ Continue holds → holds ≡ true
         → Reached image h (arms n i d) [] run words bytes (enter_body (node_at image h i).b (d + 1)) (end_of s ∷ []) run₂ words₂ bytes₂
-    arm_holds e =
-        told_value c true one e (Reached image h (arms n i d) [] run words bytes (enter_body (node_at image h i).b (d + 1)) (end_of s ∷ []) run₂ words₂ bytes₂)
-        (λ v is z. via (enter_body (node_at image h i).b (d + 1)) (end_of s ∷ []) (on_value is arm_way q) (λ K. arm_told_lem z))
+    arm_holds {holds} e k =
+        let told = told_value c holds true one e k in
+        via (enter_body (node_at image h i).b (d + 1)) (end_of s ∷ []) (on_value told.1 arm_way q) (λ K. arm_told_lem told.2)
 
-    pub arm_fails : {run₃ : List ℕ} → told_of c one ≡ Fails → BecameRun (closed s) run₂ run₃
+    pub arm_fails : {holds : Bool} {run₃ : List ℕ} → told_of c one ≡ Continue holds → holds ≡ false → BecameRun (closed s) run₂ run₃
         → Reached image h (arms n i d) [] run words bytes (arms n (onward image h i) d) [] run₃ words₂ bytes₂
-    arm_fails {run₃} e cl =
-        told_value c false one e (Reached image h (arms n i d) [] run words bytes (arms n (onward image h i) d) [] run₃ words₂ bytes₂)
-        (λ v is z. on_then (on_value is arm_way q) (became (arms n (onward image h i) d) [] (λ K. arm_told_lem z) (cl words₂ bytes₂ q.fits)))
+    arm_fails {holds} {run₃} e k cl =
+        let told = told_value c holds false one e k in
+        on_then (on_value told.1 arm_way q) (became (arms n (onward image h i) d) [] (λ K. arm_told_lem told.2) (cl words₂ bytes₂ q.fits))
 
-    pub arm_out : {r : Outcome} → told_of c one ≡ ToldOut r → Post image h (arms n i d) [] run words bytes run₂ words₂ bytes₂ r
+    pub arm_out : {r : Outcome} → told_of c one ≡ Break r → Post image h (arms n i d) [] run words bytes run₂ words₂ bytes₂ r
     arm_out e = told_out (arm_of n i d s ∷ []) one refl e arm_way q (λ v z K. rw ce (arm_told_lem z))
 
   module _ {n d : ℕ} {run words bytes : List ℕ} (fits : Fits run words) where
@@ -401,23 +368,22 @@ module _ {image : List ℕ} {h : Header} where
     turn_way : Reached image h (turn n d s) [] run words bytes (test c d) (condition_of n d s ∷ []) run₁ words bytes
     turn_way = became (test c d) (condition_of n d s ∷ []) (λ K. rw ce (turn_tested (λ z. condition (ce ∙ z)))) (b words bytes fits)
 
-    pub turn_holds : told_of c one ≡ Holds
+    pub turn_holds : {holds : Bool} → told_of c one ≡ Continue holds → holds ≡ true
         → Reached image h (turn n d s) [] run words bytes (enter_body (node_at image h n).b (d + 1)) (body_of n d s (scope_of run₂) ∷ []) run₂ words₂ bytes₂
     unfolding store_of
-    turn_holds e =
-        told_value c true one e
-        (Reached image h (turn n d s) [] run words bytes (enter_body (node_at image h n).b (d + 1)) (body_of n d s (scope_of run₂) ∷ []) run₂ words₂ bytes₂)
-        (λ v is z. via (enter_body (node_at image h n).b (d + 1)) (body_of n d s (scope_of run₂) ∷ []) (on_value is turn_way q) (λ K. condition_told_lem z))
+    turn_holds {holds} e k =
+        let told = told_value c holds true one e k in
+        via (enter_body (node_at image h n).b (d + 1)) (body_of n d s (scope_of run₂) ∷ []) (on_value told.1 turn_way q) (λ K. condition_told_lem told.2)
 
-    pub turn_fails : {run₃ : List ℕ} → told_of c one ≡ Fails → BecameRun (closed s) run₂ run₃ → Post image h (turn n d s) [] run words bytes run₃ words₂ bytes₂ (Done VUnit)
-    turn_fails {run₃} e cl =
-        told_value c false one e (Post image h (turn n d s) [] run words bytes run₃ words₂ bytes₂ (Done VUnit))
-        (λ v is z. value_is (on_then (on_value is turn_way q) (became (ret VUnit) [] (λ K. condition_told_lem z) (cl words₂ bytes₂ q.fits))))
+    pub turn_fails : {holds : Bool} {run₃ : List ℕ} → told_of c one ≡ Continue holds → holds ≡ false → BecameRun (closed s) run₂ run₃ → Post image h (turn n d s) [] run words bytes run₃ words₂ bytes₂ (Done VUnit)
+    turn_fails {holds} {run₃} e k cl =
+        let told = told_value c holds false one e k in
+        value_is (on_then (on_value told.1 turn_way q) (became (ret VUnit) [] (λ K. condition_told_lem told.2) (cl words₂ bytes₂ q.fits)))
 
-    pub turn_out : {r : Outcome} → told_of c one ≡ ToldOut r → Post image h (turn n d s) [] run words bytes run₂ words₂ bytes₂ r
+    pub turn_out : {r : Outcome} → told_of c one ≡ Break r → Post image h (turn n d s) [] run words bytes run₂ words₂ bytes₂ r
     turn_out e = told_out (condition_of n d s ∷ []) one refl e turn_way q (λ v z K. rw ce (condition_told_lem z))
 
-  module _ {n d m s f : ℕ} {run words bytes run₁ words₁ bytes₁ run₂ : List ℕ} (one : Outcome) {r : Progress} (fits : Fits run words)
+  module _ {n d m s f : ℕ} {run words bytes run₁ words₁ bytes₁ run₂ : List ℕ} (one : Outcome) {r : ControlFlow Outcome (Unit {0})} (fits : Fits run words)
       (q : Post image h (enter_body m (d + 1)) [] run words bytes run₁ words₁ bytes₁ one) (a : PassOver image h n s f one run₁ run₂ r) where
     pub pass_done : m ≡ (node_at image h n).b → f ≡ scope_of run
         → Advance image h (enter_body (node_at image h n).b (d + 1)) (body_of n d s (scope_of run) ∷ []) (turn n d s) [] run words bytes run₂ words₁ bytes₁ r
@@ -427,16 +393,16 @@ module _ {image : List ℕ} {h : Header} where
         on_after_on one way q (a d words₁ bytes₁ q.fits)
 
   -- a pass takes, where the loop goes on
-  pub pass_falls : {n x m s f : ℕ} {run words bytes run₁ words₁ bytes₁ run₂ : List ℕ} (one : Outcome) {r : Progress}
-      → Post image h (enter_body m x) [] run words bytes run₁ words₁ bytes₁ one → PassOver image h n s f one run₁ run₂ r → r ≡ On → takes_of run₂ < takes_of run
+  pub pass_falls : {n x m s f : ℕ} {run words bytes run₁ words₁ bytes₁ run₂ : List ℕ} (one : Outcome) {r : ControlFlow Outcome (Unit {0})}
+      → Post image h (enter_body m x) [] run words bytes run₁ words₁ bytes₁ one → PassOver image h n s f one run₁ run₂ r → r ≡ Continue tt → takes_of run₂ < takes_of run
   pass_falls {words₁ = words₁} {bytes₁ = bytes₁} (Done v) q a e =
       let entered = entering_falls body gives q.ways in
       omega (arith, entered, no_more (on_is (a 0 words₁ bytes₁ q.fits).ways e))
   pass_falls {words₁ = words₁} {bytes₁ = bytes₁} (Broke b v) q a e =
       let entered = entering_falls body broke q.ways.0 in
       omega (arith, entered, no_more (on_is ((a 0 words₁ bytes₁ q.fits).ways q.ways.1 q.ways.2) e))
-  pass_falls {words₁ = words₁} {bytes₁ = bytes₁} (Refused why place) q a e = absurd (omega (arith, ap progress_number (sym (a 0 words₁ bytes₁ q.fits).ways.0 ∙ e)))
-  pass_falls {words₁ = words₁} {bytes₁ = bytes₁} (Spent place) q a e = absurd (omega (arith, ap progress_number (sym (a 0 words₁ bytes₁ q.fits).ways.0 ∙ e)))
+  pass_falls {words₁ = words₁} {bytes₁ = bytes₁} (Refused why place) q a e = let out = (a 0 words₁ bytes₁ q.fits).ways.0 in cc
+  pass_falls {words₁ = words₁} {bytes₁ = bytes₁} (Spent place) q a e = let out = (a 0 words₁ bytes₁ q.fits).ways.0 in cc
 
   -- ---- takes, where an evaluator returned
 
@@ -466,18 +432,8 @@ module _ {image : List ℕ} {h : Header} where
       → Post image h (work n d) [] run words bytes run words bytes (Refused NotConst n)
   not_const_post {n} fits unlisted = refused (λ K. not_const (no_kind (node_at image h n).kind unlisted)) fits refl
 
-pub falls_after : {run run₁ run₂ : List ℕ} {r : Progress} → takes_of run₁ ≤ takes_of run → Falls r run₁ run₂ → Falls r run run₂
+pub falls_after : {run run₁ run₂ : List ℕ} {r : ControlFlow Outcome (Unit {0})} → takes_of run₁ ≤ takes_of run → Falls r run₁ run₂ → Falls r run run₂
 falls_after {run} {run₁} {run₂} fewer f = record { less = λ e. omega (arith, fewer, f.less e) }
 
-pub never_on : {run run₁ : List ℕ} {r : Outcome} → Falls (Out r) run run₁
-never_on = record { less = λ e. absurd (omega (arith, ap progress_number e)) }
-
--- a number that is none of the kinds
-below : (k j x : ℕ) → j ≡ k + 1 → x ≤ j → (x ≡ j → ⊥) → x ≤ k
-below k j x e most other = omega (arith, e, most, other)
-
-pub none_of_16 : (x : ℕ) → (x ≡ 1 → ⊥) → (x ≡ 2 → ⊥) → (x ≡ 3 → ⊥) → (x ≡ 4 → ⊥) → (x ≡ 5 → ⊥) → (x ≡ 6 → ⊥) → (x ≡ 7 → ⊥) → (x ≡ 8 → ⊥) → (x ≡ 9 → ⊥) → (x ≡ 10 → ⊥) → (x ≡ 11 → ⊥) → (x ≡ 12 → ⊥) → (x ≡ 13 → ⊥) → (x ≡ 14 → ⊥) → (x ≡ 15 → ⊥) → (x ≡ 16 → ⊥)
-    → 0 < x → x ≤ 16 → ⊥
-none_of_16 x n1 n2 n3 n4 n5 n6 n7 n8 n9 n10 n11 n12 n13 n14 n15 n16 low high =
-    let none : x ≤ 0 = below 0 1 x refl (below 1 2 x refl (below 2 3 x refl (below 3 4 x refl (below 4 5 x refl (below 5 6 x refl (below 6 7 x refl (below 7 8 x refl (below 8 9 x refl (below 9 10 x refl (below 10 11 x refl (below 11 12 x refl (below 12 13 x refl (below 13 14 x refl (below 14 15 x refl (below 15 16 x refl high n16) n15) n14) n13) n12) n11) n10) n9) n8) n7) n6) n5) n4) n3) n2) n1 in
-    omega (arith, low, none)
+pub never_on : {run run₁ : List ℕ} {r : Outcome} → Falls (Break r) run run₁
+never_on = record { less = λ e. cc }

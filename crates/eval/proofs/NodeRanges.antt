@@ -4,13 +4,16 @@ use native.Mathlib.Omega.{arith}
 use mathlib.Core.Path.{◌≡◌, refl, sym, ap, subst, ◌∙◌}
 use mathlib.Core.Bool.{Bool, true, false, ◌&&◌, true≢false}
 use mathlib.Core.List.{List}
+use native.Mathlib.Decide.{ℕ_discrete}
 use borrow.Author.Tests.{ltb-true, leb-true, eqb-true, eq-eqb, ne_eqb}
 use lib.Dec.{ltb, leb, eqb}
 use lib.ListN.{length}
 use Rattle.fields.proofs.Tests.{and_both}
 use Rattle.packed.specs.declared.layout.Header.{Header}
+use Rattle.packed.specs.declared.layout.Node.{Node}
+use Rattle.packed.specs.declared.layout.Function.{Function}
 use Rattle.kinds.specs.declared.Class.{Class}
-use Rattle.kinds.specs.declared.Class.TheVariants.{Expression, Component, Entry}
+use Rattle.kinds.specs.declared.Class.TheVariants.{Expression, Condition, Scope, Arm, Component, Entry}
 use Rattle.kinds.specs.declared.Role.{Role}
 use Rattle.kinds.specs.declared.Role.TheVariants.{Node as NodeRole}
 use Rattle.packed.specs.Layout.{node_at, function_at, size_of}
@@ -25,7 +28,7 @@ use Rattle.building.proofs.ChainLaws.{size_right}
 use Rattle.outcomes.specs.Post.{Ready}
 use Rattle.outcomes.specs.Outcomes.{IsNode}
 use Rattle.operands.specs.Waiting.{Single, declares, sets, assigns, breaks, operand_of}
-use Rattle.items.specs.Gathering.{Gathers, built, called, templates, vecs, tuples, objects, IsItem}
+use Rattle.items.specs.Gathering.{Builds, Gathers, built, called, templates, vecs, tuples, objects, IsItem}
 
 -- a field that names a node: it is one, if it must be or is not 0
 named_there : (image : List ℕ) (h : Header) (needed heads : Bool) (class : Class) (x : ℕ) → fits image h (NodeRole needed heads class) x ≡ true
@@ -36,9 +39,26 @@ named_there image h true heads class x e some =
     (ltb-true 0 x both.0, leb-true x h.nodes both.1)
 named_there image h false heads class x e some = (omega (arith, some refl), leb-true x h.nodes e)
 
+-- the fields of a node, and the body of a function, that the code has read
+pub a_of : {d e : Node} → d ≡ e → d.a ≡ e.a
+a_of e = ap (λ (x : Node). x.a) e
+
+pub b_of : {d e : Node} → d ≡ e → d.b ≡ e.b
+b_of e = ap (λ (x : Node). x.b) e
+
+pub kind_is : {d e : Node} → d ≡ e → d.kind ≡ e.kind
+kind_is e = ap (λ (x : Node). x.kind) e
+
+pub body_of_function : {f g : Function} → f ≡ g → f.body ≡ g.body
+body_of_function e = ap (λ (x : Function). x.body) e
+
 module _ {image : List ℕ} {h : Header} {n : ℕ} {run words bytes : List ℕ} (r : Ready image h n run words bytes) where
   pub whole : size_of h ≤ length image
   whole = size_right image h r.loaded
+
+  -- what reading the node asks
+  pub there : (1 ≤ n) × (n ≤ h.nodes) × (size_of h ≤ length image)
+  there = (r.first, r.last, whole)
 
   pub is_node_lem : IsNode image h n
   is_node_lem = record { loaded = r.loaded; first = r.first; last = r.last }
@@ -70,6 +90,53 @@ module _ {image : List ℕ} {h : Header} {n : ℕ} {run words bytes : List ℕ} 
       let there = along_class image h r.loaded n r.first r.last needed class (ap (λ (x : ℕ). (row_of x).a) kind ∙ role) i p in
       let first : 1 ≤ i = omega (arith, there.0, r.first) in
       (first, there.1, there.2)
+
+-- ---- what a node of each kind names, by the table of kinds
+
+module _ {image : List ℕ} {h : Header} {n : ℕ} {run words bytes : List ℕ} (r : Ready image h n run words bytes) where
+  pub instruction_there : (node_at image h n).kind ≡ 1 → (i : ℕ) → Along image h n i → (1 ≤ i) × (i ≤ h.nodes)
+  unfolding row_of table
+  instruction_there k i p = let there = along_there r 1 k false Expression refl i p in (there.0, there.1)
+
+  pub last_there : (node_at image h n).kind ≡ 1 → ((node_at image h n).b ≡ 0 → ⊥) → (1 ≤ (node_at image h n).b) × ((node_at image h n).b ≤ h.nodes)
+  unfolding row_of table
+  last_there k some = b_there r 1 k false false Expression refl (λ _. some)
+
+  pub left_there : (node_at image h n).kind ≡ 2 → (1 ≤ (node_at image h n).a) × ((node_at image h n).a ≤ h.nodes)
+  unfolding row_of table
+  left_there k = a_there r 2 k true false Expression refl (λ e z. cc)
+
+  pub right_there : (node_at image h n).kind ≡ 2 → (1 ≤ (node_at image h n).b) × ((node_at image h n).b ≤ h.nodes)
+  unfolding row_of table
+  right_there k = b_there r 2 k true false Expression refl (λ e z. cc)
+
+  pub arm_there : (node_at image h n).kind ≡ 10 → (i : ℕ) → Along image h n i → (1 ≤ i) × (i ≤ h.nodes) × ((node_at image h i).kind ≡ 18)
+  unfolding row_of table
+  arm_there k i p = let there = along_there r 10 k false Arm refl i p in (there.0, there.1, eqb-true (node_at image h i).kind 18 there.2)
+
+  pub default_there : (node_at image h n).kind ≡ 10 → ((node_at image h n).b ≡ 0 → ⊥) → (1 ≤ (node_at image h n).b) × ((node_at image h n).b ≤ h.nodes)
+  unfolding row_of table
+  default_there k some = b_there r 10 k false false Scope refl (λ _. some)
+
+  pub loop_condition_there : (node_at image h n).kind ≡ 11 → ((node_at image h n).a ≡ 0 → ⊥) → (1 ≤ (node_at image h n).a) × ((node_at image h n).a ≤ h.nodes)
+  unfolding row_of table
+  loop_condition_there k some = a_there r 11 k false false Condition refl (λ _. some)
+
+  pub loop_body_there : (node_at image h n).kind ≡ 11 → (1 ≤ (node_at image h n).b) × ((node_at image h n).b ≤ h.nodes)
+  unfolding row_of table
+  loop_body_there k = b_there r 11 k true false Scope refl (λ e z. cc)
+
+  pub arm_condition_there : (node_at image h n).kind ≡ 18 → (1 ≤ (node_at image h n).a) × ((node_at image h n).a ≤ h.nodes)
+  unfolding row_of table
+  arm_condition_there k = a_there r 18 k true false Condition refl (λ e z. cc)
+
+  pub arm_body_there : (node_at image h n).kind ≡ 18 → (1 ≤ (node_at image h n).b) × ((node_at image h n).b ≤ h.nodes)
+  unfolding row_of table
+  arm_body_there k = b_there r 18 k true false Scope refl (λ e z. cc)
+
+  pub let_there : (node_at image h n).kind ≡ 20 → (1 ≤ (node_at image h n).a) × ((node_at image h n).a ≤ h.nodes)
+  unfolding row_of table
+  let_there k = a_there r 20 k true false Expression refl (λ e z. cc)
 
 -- ---- items
 
@@ -141,3 +208,21 @@ body_there {image} {h} {n} r kind =
     let named = and_both (is_node h.nodes f.body) (leb (f.first + f.count) 1024) good.0 in
     let both = and_both (ltb 0 f.body) (leb f.body h.nodes) named.0 in
     (ltb-true 0 f.body both.0, leb-true f.body h.nodes both.1)
+
+-- ---- kinds by their numbers
+
+pub single_within : (k : ℕ) → 3 ≤ k → k ≤ 5 → Single k
+single_within k low high = go (ℕ_discrete k 3) (ℕ_discrete k 4)
+  where
+    go : Dec (k ≡ 3) → Dec (k ≡ 4) → Single k
+    go (yes e) four = subst Single (sym e) declares
+    go (no three) (yes e) = subst Single (sym e) sets
+    go (no three) (no four) = let e : k ≡ 5 = omega arith in subst Single (sym e) assigns
+
+pub builds_within : (k : ℕ) → 13 ≤ k → k ≤ 15 → Builds k
+builds_within k low high = go (ℕ_discrete k 13) (ℕ_discrete k 14)
+  where
+    go : Dec (k ≡ 13) → Dec (k ≡ 14) → Builds k
+    go (yes e) tuple = subst Builds (sym e) vecs
+    go (no vec) (yes e) = subst Builds (sym e) tuples
+    go (no vec) (no tuple) = let e : k ≡ 15 = omega arith in subst Builds (sym e) objects

@@ -13,16 +13,16 @@ use binary::finish_binary;
 use bindings::{close, empty, open};
 use building::onward;
 use entering::{enter_body, enter_expr};
-use frames::Told;
 use frames::calls::{enter_call, function_of, leave_call};
 use frames::loops::{after_pass, told};
 use frames::scopes::leave_scope;
 use items::{build, finish_item, item_node};
 use leaves::{eval_name, eval_read, eval_value};
 use operands::{finish_let, finish_operand, operand_of};
-use outcomes::{Outcome, Progress};
+use outcomes::Outcome;
 use packed::layout::{Header, node_at};
 use rules::{Refusal, Value};
+use std::ops::ControlFlow;
 use stores::run::{FLOOR, PENDING, SCOPE};
 
 // An expression or a function's body.
@@ -41,8 +41,8 @@ pub fn ir_expr(
 {
     let entered = enter_expr(image, h, run, n, depth);
     match entered {
-        Progress::On => ir_work(image, h, words, bytes, run, n, depth),
-        Progress::Out(r) => r,
+        ControlFlow::Continue(()) => ir_work(image, h, words, bytes, run, n, depth),
+        ControlFlow::Break(r) => r,
     }
 }
 
@@ -62,12 +62,12 @@ fn ir_body(
 {
     let entered = enter_body(run, n, depth);
     match entered {
-        Progress::On => ir_work(image, h, words, bytes, run, n, depth),
-        Progress::Out(r) => r,
+        ControlFlow::Continue(()) => ir_work(image, h, words, bytes, run, n, depth),
+        ControlFlow::Break(r) => r,
     }
 }
 
-// A node after its takes, by its kind.
+// A node after its takes, by its kind, which is matched as the number that the image has.
 #[cycle(evaluators)]
 fn ir_work(
     image: &[u8],
@@ -86,10 +86,8 @@ fn ir_work(
     match kind {
         1 => ir_scope(image, h, words, bytes, run, n, depth),
         2 => ir_binary(image, h, words, bytes, run, n, depth),
-        3 => ir_operand(image, h, words, bytes, run, n, depth),
-        4 => ir_operand(image, h, words, bytes, run, n, depth),
-        5 => ir_operand(image, h, words, bytes, run, n, depth),
-        6 => ir_build(image, h, words, bytes, run, n, depth),
+        3..=5 => ir_operand(image, h, words, bytes, run, n, depth),
+        6 | 13..=15 => ir_build(image, h, words, bytes, run, n, depth),
         7 => eval_name(image, h, words, run, n, depth),
         8 => eval_read(image, h, words, run, n, depth),
         9 => eval_value(image, h, words, run, n, depth),
@@ -101,9 +99,6 @@ fn ir_work(
             }
             ir_operand(image, h, words, bytes, run, n, depth)
         }
-        13 => ir_build(image, h, words, bytes, run, n, depth),
-        14 => ir_build(image, h, words, bytes, run, n, depth),
-        15 => ir_build(image, h, words, bytes, run, n, depth),
         16 => ir_call(image, h, words, bytes, run, n, depth),
         _ => Outcome::Refused(Refusal::NotConst, n),
     }
@@ -127,6 +122,7 @@ fn ir_scope(
     let scope = run[SCOPE];
     open(run);
     let mut i = node.a;
+    // A chain ends at 0 and is walked by its links: there is no index to count.
     while i != 0 {
         let one = ir_expr(image, h, words, bytes, run, i, depth + 1);
         let Outcome::Done(_) = one else {
@@ -213,19 +209,17 @@ fn ir_items(
     n: u16,
     depth: u16,
     from: u64,
-) -> Progress
+) -> ControlFlow<Outcome>
     requires { Ready image.now h n run.old words.old bytes.old × (depth ≤ 128) × Gathers (node_at image.now h n).kind }
     ensures { Advance image.now h (Ctl.items n (node_at image.now h n).a depth from) [] (Ctl.items n 0 depth from) [] run.old words.old bytes.old run.new words.new bytes.new result }
 {
     let mut i = node_at(image, h, n as usize).a;
+    // A chain, as in `ir_scope`.
     while i != 0 {
-        let one = ir_item(image, h, words, bytes, run, n, i, depth, from);
-        let Progress::On = one else {
-            return one;
-        };
+        ir_item(image, h, words, bytes, run, n, i, depth, from)?;
         i = onward(node_at(image, h, i as usize), i);
     }
-    Progress::On
+    ControlFlow::Continue(())
 }
 
 // One item; a text part of a template is none.
@@ -240,13 +234,13 @@ fn ir_item(
     i: u16,
     depth: u16,
     from: u64,
-) -> Progress
+) -> ControlFlow<Outcome>
     requires { Ready image.now h n run.old words.old bytes.old × (depth ≤ 128) × IsItem image.now h n i }
     ensures { Advance image.now h (Ctl.items n i depth from) [] (Ctl.items n (onward_from image.now h i) depth from) [] run.old words.old bytes.old run.new words.new bytes.new result }
 {
     let item = node_at(image, h, i as usize);
     if item.kind == 17 {
-        return Progress::On;
+        return ControlFlow::Continue(());
     }
     let inner = item_node(image, h, n, i);
     let one = ir_expr(image, h, words, bytes, run, inner, depth + 1);
@@ -270,8 +264,8 @@ fn ir_build(
     let from = run[PENDING];
     let all = ir_items(image, h, words, bytes, run, n, depth, from);
     match all {
-        Progress::On => build(image, h, words, bytes, run, n, from),
-        Progress::Out(r) => r,
+        ControlFlow::Continue(()) => build(image, h, words, bytes, run, n, from),
+        ControlFlow::Break(r) => r,
     }
 }
 
@@ -291,8 +285,8 @@ fn ir_call(
     let from = run[PENDING];
     let all = ir_items(image, h, words, bytes, run, n, depth, from);
     match all {
-        Progress::On => ir_called(image, h, words, bytes, run, n, depth, from),
-        Progress::Out(r) => r,
+        ControlFlow::Continue(()) => ir_called(image, h, words, bytes, run, n, depth, from),
+        ControlFlow::Break(r) => r,
     }
 }
 
@@ -314,7 +308,7 @@ fn ir_called(
     let scope = run[SCOPE];
     let floor = run[FLOOR];
     let entered = enter_call(image, h, words, run, n, from);
-    if let Progress::Out(r) = entered {
+    if let ControlFlow::Break(r) = entered {
         return r;
     }
     let function = function_of(image, h, n);
@@ -355,7 +349,7 @@ fn ir_arm(
     n: u16,
     i: u16,
     depth: u16,
-) -> Progress
+) -> ControlFlow<Outcome>
     requires { Ready image.now h i run.old words.old bytes.old × (depth ≤ 128) × ((node_at image.now h i).kind ≡ 18) }
     ensures { Advance image.now h (Ctl.arms n i depth) [] (Ctl.arms n (onward_from image.now h i) depth) [] run.old words.old bytes.old run.new words.new bytes.new result }
 {
@@ -363,23 +357,13 @@ fn ir_arm(
     let scope = run[SCOPE];
     open(run);
     let one = ir_condition(image, h, words, bytes, run, arm.a, depth);
-    match told(arm.a, one) {
-        Told::Holds => Progress::Out(ir_taken(
-            image,
-            h,
-            words,
-            bytes,
-            run,
-            arm.b,
-            depth + 1,
-            scope,
-        )),
-        Told::Fails => {
-            close(run, scope);
-            Progress::On
-        }
-        Told::Out(r) => Progress::Out(r),
+    let holds = told(arm.a, one)?;
+    if holds {
+        let taken = ir_taken(image, h, words, bytes, run, arm.b, depth + 1, scope);
+        return ControlFlow::Break(taken);
     }
+    close(run, scope);
+    ControlFlow::Continue(())
 }
 
 // The body of an arm that is taken; the scope before the arm's begins at `scope`.
@@ -415,9 +399,10 @@ fn ir_branches(
     ensures { Post image.now h (Ctl.work n depth) [] run.old words.old bytes.old run.new words.new bytes.new result }
 {
     let mut i = node_at(image, h, n as usize).a;
+    // A chain, as in `ir_scope`.
     while i != 0 {
         let one = ir_arm(image, h, words, bytes, run, n, i, depth);
-        if let Progress::Out(r) = one {
+        if let ControlFlow::Break(r) = one {
             return r;
         }
         i = onward(node_at(image, h, i as usize), i);
@@ -463,7 +448,7 @@ fn ir_loop(
     open(run);
     loop {
         let one = ir_turn(image, h, words, bytes, run, n, depth, scope);
-        if let Progress::Out(r) = one {
+        if let ControlFlow::Break(r) = one {
             return r;
         }
     }
@@ -480,7 +465,7 @@ fn ir_turn(
     n: u16,
     depth: u16,
     scope: u64,
-) -> Progress
+) -> ControlFlow<Outcome>
     requires { Ready image.now h n run.old words.old bytes.old × (depth ≤ 128) × ((node_at image.now h n).kind ≡ 11) }
     ensures { Advance image.now h (Ctl.turn n depth scope) [] (Ctl.turn n depth scope) [] run.old words.old bytes.old run.new words.new bytes.new result × Falls result run.old run.new }
 {
@@ -490,14 +475,12 @@ fn ir_turn(
     }
     empty(run);
     let one = ir_condition(image, h, words, bytes, run, node.a, depth);
-    match told(node.a, one) {
-        Told::Holds => ir_pass(image, h, words, bytes, run, n, depth, scope),
-        Told::Fails => {
-            close(run, scope);
-            Progress::Out(Outcome::Done(Value::Unit))
-        }
-        Told::Out(r) => Progress::Out(r),
+    let holds = told(node.a, one)?;
+    if holds {
+        return ir_pass(image, h, words, bytes, run, n, depth, scope);
     }
+    close(run, scope);
+    ControlFlow::Break(Outcome::Done(Value::Unit))
 }
 
 // A pass through the body of loop n.
@@ -511,7 +494,7 @@ fn ir_pass(
     n: u16,
     depth: u16,
     scope: u64,
-) -> Progress
+) -> ControlFlow<Outcome>
     requires { Ready image.now h n run.old words.old bytes.old × (depth ≤ 128) × ((node_at image.now h n).kind ≡ 11) }
     ensures { Advance image.now h (Ctl.enter_body (node_at image.now h n).b (depth + 1)) (Frame.body_of n depth scope (scope_of run.old) ∷ []) (Ctl.turn n depth scope) [] run.old words.old bytes.old run.new words.new bytes.new result × Falls result run.old run.new }
 {

@@ -1,4 +1,4 @@
-// What a refusal's number means, in a few words.
+// What a refusal's number means, in a few words. (By the number: what refuses a load and what refuses a value are two enums.)
 pub fn meaning(number: u8) -> &'static str {
     match number {
         0 => "no refusal",

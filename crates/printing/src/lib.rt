@@ -97,7 +97,7 @@ impl<'a> Page<'a> {
         self.hex(u64::from(b), 2);
     }
 
-    // Bytes as two hexadecimal digits each.
+    // Bytes as two hexadecimal digits each. (A loop of its own: one generic in what a byte is written as would be no plainer.)
     pub fn hex_bytes(&mut self, text: &[u8])
         ensures same_reference { self.new.all.ghost_name ≡ self.old.all.ghost_name }
         ensures value { shown self.new ≡ with_bytes (shown self.old) (hex_of text.now) }
