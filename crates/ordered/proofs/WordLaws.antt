@@ -18,6 +18,7 @@ use Rattle.boxes.proofs.CellLaws.{what, key_at, cell_head, cell_item, cell_entry
 use Rattle.ordered.specs.Ordered.{key_in, owns, is_owned, key_text, is_after, first_of, better_of, next_of, sorted_from, sorted_cells, EntryCount, KeyAt, Precedes, IsAfter, FirstOf, BetterOf, NextEntry}
 use Rattle.ordered.proofs.OrderLaws.{head_of, upward, downward, next_more, next_first, next_follows}
 use Rattle.ordered.proofs.EntryLaws.{left, left_owned, left_other, left_none}
+use Rattle.stores.specs.declared.run.Run.{Run}
 
 -- ---- one cell
 
@@ -41,7 +42,7 @@ module _ (words : List ℕ) (i : ℕ) where
   unfolding owns
   owned_by owner two = sym (ap (owns owner) (cell_entry words i two))
 
-module _ (run words : List ℕ) (i : ℕ) where
+module _ (run : Run) (words : List ℕ) (i : ℕ) where
   pub key_entry : i < cells_of run → 2 ≤ what words i % 4 → KeyAt (key_at words i) run words i
   key_entry below two = record { is = λ bytes. sym (ap key_in (cell_get run words bytes i below ∙ cell_entry words i two)) }
 
@@ -54,7 +55,7 @@ module _ (run words : List ℕ) (i : ℕ) where
 
 -- ---- which cell is written first
 
-module _ (image : List ℕ) (h : Header) (run words : List ℕ) where
+module _ (image : List ℕ) (h : Header) (run : Run) (words : List ℕ) where
   keys_ordered : {a b i j : ℕ} → KeyAt a run words i → KeyAt b run words j → (bytes : List ℕ)
       → ascending (part_text image h a) (part_text image h b)
       ≡ ascending (key_text image h (store_of run words bytes).cells i) (key_text image h (store_of run words bytes).cells j)
@@ -159,7 +160,7 @@ module _ (image : List ℕ) (h : Header) (run words : List ℕ) where
 
 -- ---- the count
 
-module _ (run words : List ℕ) (owner : ℕ) where
+module _ (run : Run) (words : List ℕ) (owner : ℕ) where
   -- with those from i on, all
   pub record CountTo (i count : ℕ) : Type 0 where
     pub is : (image : List ℕ) (h : Header) (bytes : List ℕ)

@@ -7,6 +7,7 @@ use Rattle.rules.specs.Output.{ascending, sorted_entries}
 use Rattle.stores.specs.Finding.{found_of}
 use Rattle.stores.specs.View.{rec_at}
 use Rattle.stores.specs.Stores.{store_of, cell_in}
+use Rattle.stores.specs.declared.run.Run.{Run}
 
 -- the key of an entry, and whether a cell is the owner's entry
 abbrev pub key_in : Cell → ℕ
@@ -65,26 +66,26 @@ abbrev pub sorted_cells : List ℕ → Header → ℕ → List Cell → List ℕ
 sorted_cells image h owner cells = sorted_from image h cells owner 0 (length cells)
 
 -- what is counted, read and found does not depend on text, nor a count on keys
-pub record EntryCount (r : ℕ) (run words : List ℕ) (owner : ℕ) : Type 0 where
+pub record EntryCount (r : ℕ) (run : Run) (words : List ℕ) (owner : ℕ) : Type 0 where
   pub is : (image : List ℕ) (h : Header) (bytes : List ℕ)
       → r ≡ length (sorted_entries image h (store_of run words bytes) owner (store_of run words bytes).cells)
   pub most : r ≤ 1024
 
-pub record KeyAt (r : ℕ) (run words : List ℕ) (i : ℕ) : Type 0 where
+pub record KeyAt (r : ℕ) (run : Run) (words : List ℕ) (i : ℕ) : Type 0 where
   pub is : (bytes : List ℕ) → r ≡ key_in (get_or (store_of run words bytes).cells i (head 0))
 
-pub record Precedes (r : Bool) (image : List ℕ) (h : Header) (run words : List ℕ) (i j : ℕ) : Type 0 where
+pub record Precedes (r : Bool) (image : List ℕ) (h : Header) (run : Run) (words : List ℕ) (i j : ℕ) : Type 0 where
   pub is : (bytes : List ℕ) → r ≡ precedes image h (store_of run words bytes).cells i j
 
-pub record IsAfter (r : Bool) (image : List ℕ) (h : Header) (run words : List ℕ) (last : Option ℕ) (j : ℕ) : Type 0 where
+pub record IsAfter (r : Bool) (image : List ℕ) (h : Header) (run : Run) (words : List ℕ) (last : Option ℕ) (j : ℕ) : Type 0 where
   pub is : (bytes : List ℕ) → r ≡ is_after image h (store_of run words bytes).cells last j
 
-pub record FirstOf (r : Option ℕ) (image : List ℕ) (h : Header) (run words : List ℕ) (i : ℕ) (best : Option ℕ) : Type 0 where
+pub record FirstOf (r : Option ℕ) (image : List ℕ) (h : Header) (run : Run) (words : List ℕ) (i : ℕ) (best : Option ℕ) : Type 0 where
   pub is : (bytes : List ℕ) → r ≡ first_of image h (store_of run words bytes).cells i best
 
-pub record BetterOf (r : Option ℕ) (image : List ℕ) (h : Header) (run words : List ℕ) (owner : ℕ) (last : Option ℕ) (i : ℕ) (best : Option ℕ) : Type 0 where
+pub record BetterOf (r : Option ℕ) (image : List ℕ) (h : Header) (run : Run) (words : List ℕ) (owner : ℕ) (last : Option ℕ) (i : ℕ) (best : Option ℕ) : Type 0 where
   pub is : (bytes : List ℕ) → r ≡ better_of image h (store_of run words bytes).cells owner last i best
 
-pub record NextEntry (r : Option ℕ) (image : List ℕ) (h : Header) (run words : List ℕ) (owner : ℕ) (last : Option ℕ) : Type 0 where
+pub record NextEntry (r : Option ℕ) (image : List ℕ) (h : Header) (run : Run) (words : List ℕ) (owner : ℕ) (last : Option ℕ) : Type 0 where
   pub is : (bytes : List ℕ)
       → r ≡ found_of (next_of image h (store_of run words bytes).cells last (sorted_cells image h owner (store_of run words bytes).cells))

@@ -2,12 +2,10 @@
 #![tactic(auto)]
 
 ghost use Rattle.std.specs.Prelude.{◌≡◌, ◌≤◌, ◌<◌, length};
-ghost use Rattle.packed.specs.Layout.{size_of};
-ghost use Rattle.stores.specs.Stores.{Fits, cells_of};
 ghost use Rattle.ordered.specs.Ordered.{is_owned, EntryCount, KeyAt, Precedes, IsAfter, FirstOf, BetterOf, NextEntry};
 
-use packed::layout::Header;
-use stores::run::CELLS;
+use packed::image::Image;
+use stores::lent::Stores;
 use texts::ascending_part;
 
 // Whether cell i is an entry of the owner.
@@ -20,13 +18,12 @@ fn is_owned(words: &[u64], i: usize, owner: u32) -> bool
 }
 
 // How many entries an object has.
-pub fn count_entries(words: &[u64], run: &[u64; 16], owner: u32) -> u64
-    requires { Fits run.now words.now }
-    ensures { EntryCount result run.now words.now owner }
+pub fn count_entries(stores: &Stores, owner: u32) -> u64
+    ensures { EntryCount result stores.now.run stores.now.words.now owner }
 {
     let mut count = 0;
-    for i in 0..run[CELLS] as usize {
-        if is_owned(words, i, owner) {
+    for i in 0..stores.run.cells as usize {
+        if is_owned(stores.words, i, owner) {
             count += 1;
         }
     }
@@ -34,63 +31,45 @@ pub fn count_entries(words: &[u64], run: &[u64; 16], owner: u32) -> u64
 }
 
 // The key of cell i; 0 where it is no entry, as `key_in` has it of any cell.
-pub fn key_at(words: &[u64], run: &[u64; 16], i: usize) -> u64
-    requires { Fits run.now words.now }
-    ensures { KeyAt result run.now words.now i }
+pub fn key_at(stores: &Stores, i: usize) -> u64
+    ensures { KeyAt result stores.now.run stores.now.words.now i }
 {
-    if i < run[CELLS] as usize && 2 <= words[1794 + 4 * i] % 4 {
-        return words[1795 + 4 * i];
+    if i < stores.run.cells as usize && 2 <= stores.words[1794 + 4 * i] % 4 {
+        return stores.words[1795 + 4 * i];
     }
     0
 }
 
 // Whether cell i is written before cell j: by their keys and, where these are equal, by their numbers.
-fn precedes(image: &[u8], h: Header, words: &[u64], run: &[u64; 16], i: usize, j: usize) -> bool
-    requires { (size_of h ≤ length image.now) × Fits run.now words.now }
-    ensures { Precedes result image.now h run.now words.now i j }
+fn precedes(image: &Image, stores: &Stores, i: usize, j: usize) -> bool
+    ensures { Precedes result image.now.bytes.now image.now.header stores.now.run stores.now.words.now i j }
 {
-    let a = key_at(words, run, i);
-    let b = key_at(words, run, j);
+    let a = key_at(stores, i);
+    let b = key_at(stores, j);
     if i < j {
-        return ascending_part(image, h, a, b);
+        return ascending_part(image, a, b);
     }
-    !ascending_part(image, h, b, a)
+    !ascending_part(image, b, a)
 }
 
 // Whether cell j is written after the last one; where there is none, any is.
-fn is_after(
-    image: &[u8],
-    h: Header,
-    words: &[u64],
-    run: &[u64; 16],
-    last: Option<usize>,
-    j: usize,
-) -> bool
-    requires { (size_of h ≤ length image.now) × Fits run.now words.now }
-    ensures { IsAfter result image.now h run.now words.now last j }
+fn is_after(image: &Image, stores: &Stores, last: Option<usize>, j: usize) -> bool
+    ensures { IsAfter result image.now.bytes.now image.now.header stores.now.run stores.now.words.now last j }
 {
     let Some(i) = last else {
         return true;
     };
-    precedes(image, h, words, run, i, j)
+    precedes(image, stores, i, j)
 }
 
 // Of cell i and the best so far, the one that is written first.
-fn first_of(
-    image: &[u8],
-    h: Header,
-    words: &[u64],
-    run: &[u64; 16],
-    i: usize,
-    best: Option<usize>,
-) -> Option<usize>
-    requires { (size_of h ≤ length image.now) × Fits run.now words.now }
-    ensures { FirstOf result image.now h run.now words.now i best }
+fn first_of(image: &Image, stores: &Stores, i: usize, best: Option<usize>) -> Option<usize>
+    ensures { FirstOf result image.now.bytes.now image.now.header stores.now.run stores.now.words.now i best }
 {
     let Some(j) = best else {
         return Some(i);
     };
-    if precedes(image, h, words, run, i, j) {
+    if precedes(image, stores, i, j) {
         return Some(i);
     }
     Some(j)
@@ -98,39 +77,29 @@ fn first_of(
 
 // The best so far with cell i looked at as well, if it is an entry of the owner and after the last one.
 fn better_of(
-    image: &[u8],
-    h: Header,
-    words: &[u64],
-    run: &[u64; 16],
+    image: &Image,
+    stores: &Stores,
     owner: u32,
     last: Option<usize>,
     i: usize,
     best: Option<usize>,
 ) -> Option<usize>
-    requires { (size_of h ≤ length image.now) × Fits run.now words.now × (i < cells_of run.now) }
-    ensures { BetterOf result image.now h run.now words.now owner last i best }
+    requires { i < stores.now.run.cells }
+    ensures { BetterOf result image.now.bytes.now image.now.header stores.now.run stores.now.words.now owner last i best }
 {
-    if is_owned(words, i, owner) && is_after(image, h, words, run, last, i) {
-        return first_of(image, h, words, run, i, best);
+    if is_owned(stores.words, i, owner) && is_after(image, stores, last, i) {
+        return first_of(image, stores, i, best);
     }
     best
 }
 
 // The entry of an object that is written after the last one, or first of all where there is none.
-pub fn next_entry(
-    image: &[u8],
-    h: Header,
-    words: &[u64],
-    run: &[u64; 16],
-    owner: u32,
-    last: Option<usize>,
-) -> Option<usize>
-    requires { (size_of h ≤ length image.now) × Fits run.now words.now }
-    ensures { NextEntry result image.now h run.now words.now owner last }
+pub fn next_entry(image: &Image, stores: &Stores, owner: u32, last: Option<usize>) -> Option<usize>
+    ensures { NextEntry result image.now.bytes.now image.now.header stores.now.run stores.now.words.now owner last }
 {
     let mut best = None;
-    for i in (0..run[CELLS] as usize).rev() {
-        best = better_of(image, h, words, run, owner, last, i, best);
+    for i in (0..stores.run.cells as usize).rev() {
+        best = better_of(image, stores, owner, last, i, best);
     }
     best
 }

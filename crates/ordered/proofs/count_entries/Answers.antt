@@ -13,10 +13,10 @@ loop-i-preserved c =
     let a = c.args in
     elim c.if-is_owned.branch [
       | then-is_owned w ↦
-          (omega (arith, w.count-is), rw w.count-is (count_owned a.run.now a.words.now a.owner l.i l.count l.invariant.1 c.loop-i-test.true w.if-is_owned.ensures))
+          (omega (arith, w.count-is), rw w.count-is (count_owned a.stores.now.run a.stores.now.words.now a.owner l.i l.count l.invariant.1 c.loop-i-test.true w.if-is_owned.ensures))
       | else-is_owned w ↦
-          (omega (arith, w.count-is), rw w.count-is (count_other a.run.now a.words.now a.owner l.i l.count l.invariant.1 c.loop-i-test.true w.if-is_owned.ensures))
+          (omega (arith, w.count-is), rw w.count-is (count_other a.stores.now.run a.stores.now.words.now a.owner l.i l.count l.invariant.1 c.loop-i-test.true w.if-is_owned.ensures))
     ]
 
 pub returns : goal.returns
-returns c = count_done _ _ _ _ _ c.loop-i.invariant.1 c.loop-i-test.false (omega (arith, c.requires.cells))
+returns c = count_done _ _ _ _ _ c.loop-i.invariant.1 c.loop-i-test.false (omega (arith, c.args.stores.now.fits.cells))
