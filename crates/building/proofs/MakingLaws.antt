@@ -16,11 +16,12 @@ use Rattle.rules.specs.declared.Value.TheVariants.{Unit as VUnit, Bool as VBool,
 use Rattle.rules.specs.Store.{Cell, Store, with_cells, taken_cells}
 use Rattle.rules.specs.Building.{gives, boxed, printed}
 use Rattle.boxes.proofs.CellLaws.{length-cells}
-use Rattle.stores.specs.Stores.{cells_of, store_of, TriedWords}
+use Rattle.stores.specs.Stores.{cells_of, store_of, Tried, Makes}
 use Rattle.boxes.specs.Cells.{items_taken}
-use Rattle.building.specs.Making.{MakesItems}
+use Rattle.building.specs.Making.{items_made}
 use Rattle.numbers.specs.Decimal.{put_of, end_of}
 use Rattle.numbers.proofs.DecimalLaws.{room}
+use Rattle.stores.specs.declared.run.Run.{Run}
 
 -- ---- cells are taken all or none
 
@@ -32,16 +33,17 @@ cells_refused σ cs over = rw (lt-leb (length σ.cells + length cs) 1024 over)
 
 -- ---- vec and tuple
 
-module _ (n from : ℕ) (run words run' words' : List ℕ) where
-  pub items_made_lem : TriedWords true (items_taken from) run words run' words' → MakesItems (Ok (cells_of run)) n from run words run' words'
-  items_made_lem taken box bytes =
+module _ (n from : ℕ) (run : Run) (words bytes : List ℕ) (run' : Run) (words' bytes' : List ℕ) where
+  pub items_made_lem : Tried true (items_taken from) run words bytes run' words' bytes'
+      → (box : ℕ → Value) → Makes (Ok (box (cells_of run))) (items_made box n from) run words bytes run' words' bytes'
+  items_made_lem taken box =
       let σ = store_of run words bytes in
       record {
         did =
-            ap (boxed n (box (length σ.cells))) (taken bytes).did
-            ∙ ap (λ (k : ℕ). gives (box k) (store_of run' words' bytes)) (length-cells run words bytes);
+            ap (boxed n (box (length σ.cells))) taken.did
+            ∙ ap (λ (k : ℕ). gives (box k) (store_of run' words' bytes')) (length-cells run words bytes);
         undone = λ r e. absurd (cc);
-        kept = (taken bytes).kept;
+        kept = taken.kept;
       }
 
 -- ---- template

@@ -5,7 +5,7 @@ use mathlib.Core.List.{List, [], ◌∷◌, ◌++◌, append_assoc}
 use Prim.Native.Nat.{ℕ, ◌+◌, ◌*◌, ◌≤◌, ◌<◌}
 use native.Mathlib.Nat.{le_refl}
 use native.Mathlib.Omega.{arith}
-use lib.ListN.{length, set, take, drop, length-map}
+use lib.ListN.{length, take, drop, length-map}
 use lib.Seq.{sets, length-sets}
 use Rattle.std.specs.Prelude.{Option, Some, None, Ok, Err}
 use Rattle.packed.specs.declared.layout.Header.{Header}
@@ -17,20 +17,22 @@ use Rattle.rules.specs.Targets.{refusing}
 use Rattle.rules.specs.Store.{Cell, head as head_cell, entry, with_cells, dropped}
 use Rattle.rules.specs.Building.{gives, refuses, boxed, entries, entry_cells}
 use Rattle.rules.specs.Machine.{whole_chain}
-use Rattle.stores.specs.Stores.{bound_of, pending_of, cells_of, cell_in, bindings_in, pendings_in, cells_in, store_of, Fits, BecameRun, MakesWords}
+use Rattle.stores.specs.Stores.{bound_of, pending_of, cells_of, cell_in, bindings_in, pendings_in, cells_in, store_of, Fits, Became, MakesWords, Makes}
 use Rattle.boxes.specs.Cells.{head_words}
 use Rattle.entries.specs.Entries.{entries_of}
 use Rattle.building.specs.Making.{object_made, entries_in, EntriesPut}
 use Rattle.stores.proofs.Views.{view_push, view_apart, view_take}
 use Rattle.stores.proofs.Regions.{bindings_apart, pendings_apart, fits_words}
-use Rattle.stores.proofs.Numbers.{cells_set}
+use Rattle.stores.proofs.Numbers.{cells_set, fits_cells}
 use Rattle.stores.proofs.Chains.{kept_same, kept_then}
 use Rattle.stores.proofs.Counted.{cells_counted, recounted}
 use Rattle.boxes.proofs.CellLaws.{length-cells}
 use Rattle.building.proofs.MakingLaws.{cells_taken, cells_refused}
 use Rattle.building.proofs.ObjectLaws.{ended_at, not_ended_at}
+use Rattle.stores.specs.declared.run.Run.{Run}
+use Rattle.stores.specs.Run.{set_cells}
 
-module _ (image : List ℕ) (h : Header) (n from : ℕ) (run words : List ℕ) (f : Fits run words) where
+module _ (image : List ℕ) (h : Header) (n from : ℕ) (run : Run) (words : List ℕ) (f : Fits run words) where
   abbrev top : ℕ
   top = cells_of run
 
@@ -50,7 +52,7 @@ module _ (image : List ℕ) (h : Header) (n from : ℕ) (run words : List ℕ) (
       record {
         did = all_refused bytes (omega arith);
         undone = λ r e. refl;
-        kept = record { fits = f; room = refl; takes = refl; rest = refl };
+        kept = kept_same f;
       }
 
   abbrev headed : List ℕ
@@ -103,30 +105,32 @@ module _ (image : List ℕ) (h : Header) (n from : ℕ) (run words : List ℕ) (
         same_entries
         ∙ append_assoc (cells_in top words) (head_cell 0 ∷ []) (entries_of top all)
 
-    module _ (run' : List ℕ) (given_back : BecameRun (dropped from) run run') (end : ℕ) (is : r ≡ Some end) where
+    module _ (end : ℕ) (is : r ≡ Some end) where
       pub last : (end ≡ top + 1 + length (entries_in image h n from (pending_of run) headed)) × (end ≤ 1024)
       last = ended_at (top + 1 + length (entries_in image h n from (pending_of run) headed)) end (sym is ∙ put.ends)
 
-      new_store : (bytes : List ℕ) → store_of (set run' 5 end) words' bytes ≡ with_cells (cells_in top words ++ (head_cell 0 ∷ entries_of top all)) (dropped from (store_of run words bytes))
-      new_store bytes =
-          let back = given_back words' bytes still_fits in
-          cells_set run' words' bytes end back.kept.fits.run_length ∙ ap₂ with_cells (new_cells end is) (back.store ∙ ap (dropped from) (same_store bytes))
+      pub ended_fits : Fits (set_cells run end) words'
+      ended_fits = fits_cells run words' end still_fits last.1
 
-      all_taken : (bytes : List ℕ) → object_made image h n from (store_of run words bytes) ≡ gives (Object top) (store_of (set run' 5 end) words' bytes)
-      unfolding store_of
-      all_taken bytes =
-          let σ = store_of run words bytes in
-          let size = length-map all (λ (e : ℕ × Value). entry (length σ.cells) e.0 e.1) in
-          ap (boxed n (Object (length σ.cells)))
-          (cells_taken (dropped from σ) (entry_cells σ all) (omega (arith, length-cells run words bytes, last.0, last.1, ap length same_entries)))
-          ∙ ap (λ (k : ℕ). gives (Object k) (with_cells (cells_in top words ++ (head_cell 0 ∷ entries_of k all)) (dropped from σ))) (length-cells run words bytes)
-          ∙ ap (gives (Object top)) (sym (new_store bytes))
+      -- the items given back
+      module _ (bytes : List ℕ) (run'' : Run) (words'' bytes'' : List ℕ) (given_back : Became (dropped from) (set_cells run end) words' bytes run'' words'' bytes'') where
+        new_store : store_of run'' words'' bytes'' ≡ with_cells (cells_in top words ++ (head_cell 0 ∷ entries_of top all)) (dropped from (store_of run words bytes))
+        new_store = given_back.store ∙ ap (dropped from) (cells_set run words' bytes end ∙ ap₂ with_cells (new_cells end is) (same_store bytes))
 
-      pub object_made_lem : MakesWords (Ok (Object top)) (object_made image h n from) run words (set run' 5 end) words'
-      object_made_lem bytes =
-          let back = given_back words' bytes still_fits in
-          record {
-            did = all_taken bytes;
-            undone = λ r e. absurd (cc);
-            kept = kept_then back.kept (recounted cells_counted run' words' end back.kept.fits (last.1) bytes).kept;
-          }
+        all_taken : object_made image h n from (store_of run words bytes) ≡ gives (Object top) (store_of run'' words'' bytes'')
+        unfolding store_of
+        all_taken =
+            let σ = store_of run words bytes in
+            let size = length-map all (λ (e : ℕ × Value). entry (length σ.cells) e.0 e.1) in
+            ap (boxed n (Object (length σ.cells)))
+            (cells_taken (dropped from σ) (entry_cells σ all) (omega (arith, length-cells run words bytes, last.0, last.1, ap length same_entries)))
+            ∙ ap (λ (k : ℕ). gives (Object k) (with_cells (cells_in top words ++ (head_cell 0 ∷ entries_of k all)) (dropped from σ))) (length-cells run words bytes)
+            ∙ ap (gives (Object top)) (sym new_store)
+
+        pub object_made_lem : Makes (Ok (Object top)) (object_made image h n from) run words bytes run'' words'' bytes''
+        object_made_lem =
+            record {
+              did = all_taken;
+              undone = λ r e. absurd (cc);
+              kept = kept_then (recounted cells_counted run words' end still_fits last.1 bytes).kept given_back.kept;
+            }

@@ -7,7 +7,7 @@ use Prim.Native.Nat.{ℕ, ◌+◌, ◌-◌, ◌≤◌}
 use native.Mathlib.Omega.{arith}
 use borrow.Author.Tests.{le-leb, lt-leb}
 use lib.Dec.{eqb}
-use lib.ListN.{length, set, take, drop}
+use lib.ListN.{length, take, drop}
 use lib.Seq.{length-take-le}
 use Rattle.packed.specs.declared.layout.Header.{Header}
 use Rattle.packed.specs.Layout.{node_at}
@@ -19,11 +19,13 @@ use Rattle.rules.specs.Targets.{refusing}
 use Rattle.rules.specs.Store.{Store, empty, with_text, dropped, literal_text, text_of as part_of}
 use Rattle.rules.specs.Building.{gives, built_text, printed, or_nothing, template_text}
 use Rattle.rules.specs.Machine.{whole_chain}
-use Rattle.stores.specs.Stores.{text_of, pending_of, store_of, Fits, BecameRun, Makes}
+use Rattle.stores.specs.Stores.{text_of, pending_of, store_of, Fits, Became, Makes}
 use Rattle.building.specs.Making.{template_made, components_text, ComponentsPut}
 use Rattle.numbers.proofs.DecimalLaws.{ended, not_ended}
-use Rattle.stores.proofs.Numbers.{text_set, kept_text}
+use Rattle.stores.proofs.Numbers.{text_set, kept_text, fits_text}
 use Rattle.stores.proofs.Chains.{kept_bytes, kept_then}
+use Rattle.stores.specs.declared.run.Run.{Run}
+use Rattle.stores.specs.Run.{set_text}
 
 -- ---- what prints depends on the store's text alone
 
@@ -53,7 +55,7 @@ module _ (image : List ℕ) (h : Header) (σ τ : Store) (same : σ.text ≡ τ.
 
 -- ---- the store
 
-module _ (image : List ℕ) (h : Header) (n from : ℕ) (run words bytes bytes' : List ℕ) (f : Fits run words) (room : length bytes ≡ 16384) where
+module _ (image : List ℕ) (h : Header) (n from : ℕ) (run : Run) (words bytes bytes' : List ℕ) (f : Fits run words) (room : length bytes ≡ 16384) where
   abbrev made : ℕ
   made = text_of run
 
@@ -86,17 +88,20 @@ module _ (image : List ℕ) (h : Header) (n from : ℕ) (run words bytes bytes' 
     template_size =
         let last : (end ≡ made + length whole) × (end ≤ length bytes) = ended bytes made whole put.ends in (omega (arith, room), last.0)
 
-    module _ (run' : List ℕ) (given_back : BecameRun (dropped from) run run') where
-      new_store : store_of (set run' 6 end) words bytes' ≡ with_text (take made bytes ++ whole) (dropped from (store_of run words bytes))
+    pub ended_fits : Fits (set_text run end) words
+    ended_fits = fits_text run words end f (omega (arith, template_size))
+
+    -- the items given back
+    module _ (run'' : Run) (words'' bytes'' : List ℕ) (given_back : Became (dropped from) (set_text run end) words bytes' run'' words'' bytes'') where
+      new_store : store_of run'' words'' bytes'' ≡ with_text (take made bytes ++ whole) (dropped from (store_of run words bytes))
       unfolding store_of
       new_store =
-          let back = given_back words bytes' f in
-          text_set run' words bytes' end back.kept.fits.run_length ∙ ap₂ with_text (put.text end refl) back.store
+          given_back.store
+          ∙ ap (dropped from) (text_set run words bytes' end ∙ ap (λ (text : List ℕ). with_text text (store_of run words bytes)) (put.text end refl))
 
-      pub template_made_lem : Makes (Ok (Text (h.text + made) (end - made))) (template_made image h n from) run words bytes (set run' 6 end) words bytes'
+      pub template_made_lem : Makes (Ok (Text (h.text + made) (end - made))) (template_made image h n from) run words bytes run'' words'' bytes''
       unfolding store_of built_text
       template_made_lem =
-          let back = given_back words bytes' f in
           let size : length whole ≡ end - made = omega (arith, template_size) in
           record {
             did =
@@ -105,5 +110,5 @@ module _ (image : List ℕ) (h : Header) (n from : ℕ) (run words bytes bytes' 
                 (ap₂ (λ (k l : ℕ). gives (Text (h.text + k) l) (with_text (take made bytes ++ whole) (dropped from (store_of run words bytes)))) length-made size
                 ∙ ap (gives (Text (h.text + made) (end - made))) (sym new_store));
             undone = λ r e. absurd (cc);
-            kept = kept_then (kept_bytes f put.long) (kept_then back.kept (kept_text run' words end bytes' back.kept.fits (omega (arith, template_size))));
+            kept = kept_then (kept_bytes f put.long) (kept_then (kept_text run words end bytes' f (omega (arith, template_size))) given_back.kept);
           }

@@ -13,7 +13,9 @@ use Rattle.rules.specs.declared.Refused.{Refused}
 use Rattle.rules.specs.Store.{Store, empty, with_text, dropped, taken_cells, as_float}
 use Rattle.rules.specs.Building.{Made, built_text, boxed, item_cells, entries, entry_cells, printed, unprinted, or_nothing, template_text}
 use Rattle.rules.specs.Machine.{whole_chain}
-use Rattle.stores.specs.Stores.{bindings_in, pendings_in, cells_in, MakesWords}
+use Rattle.stores.specs.declared.lent.Stores.{Stores}
+use Rattle.stores.specs.Lent.{StoresMade}
+use Rattle.stores.specs.Stores.{bindings_in, pendings_in, cells_in}
 use Rattle.entries.specs.Entries.{entries_of, object_end}
 
 -- a node of that kind in an image that loads
@@ -38,8 +40,8 @@ boxed_by box (Ok head) = Ok (box head)
 boxed_by box (Err e) = Err e
 
 -- whichever value it is to be
-abbrev pub MakesItems : Result ℕ Refused → ℕ → ℕ → List ℕ → List ℕ → List ℕ → List ℕ → Type 0
-MakesItems r n from run words run' words' = (box : ℕ → Value) → MakesWords (boxed_by box r) (items_made box n from) run words run' words'
+abbrev pub StoresMadeItems : Result ℕ Refused → ℕ → ℕ → Stores → Stores → Type 0
+StoresMadeItems r n from s s' = (box : ℕ → Value) → StoresMade (boxed_by box r) (items_made box n from) s s'
 
 -- ---- object
 

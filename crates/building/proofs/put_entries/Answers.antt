@@ -1,40 +1,40 @@
 -- The loop's invariant is `Entering`.
 use native.Mathlib.Omega.{arith}
-use Rattle.building.proofs.ChainLaws.{size_right, entry_there}
+use Rattle.building.proofs.ChainLaws.{entry_there}
 use Rattle.building.proofs.ObjectLaws.{entering_begins, items_end, chain_ends, entering_more, entering_full}
 use Rattle.building.proofs.put_entries.Goals as goal
 
-pub node_at-i-requires : goal.node_at-i-requires
-node_at-i-requires c = (c.requires.0.first, c.requires.0.last, size_right _ _ c.requires.0.loaded)
+pub node-i-requires : goal.node-i-requires
+node-i-requires c = (c.requires.0.first, c.requires.0.last)
 
 pub loop-at-init : goal.loop-at-init
-loop-at-init c = rw c.node_at-i.ensures (entering_begins _ _ _ _ _ _ _ c.requires.1)
+loop-at-init c = rw c.node-i.ensures (entering_begins _ _ _ _ _ _ _ c.requires.1)
 
-pub node_at-entry-requires : goal.node_at-entry-requires
-node_at-entry-requires c =
+pub node-entry-requires : goal.node-entry-requires
+node-entry-requires c =
     let there = entry_there _ _ _ c.requires.0 _ (c.loop-at.invariant.along c.if-i-eq0.false) in
-    (there.0, there.1, size_right _ _ c.requires.0.loaded)
+    (there.0, there.1)
 
 pub key_of-requires : goal.key_of-requires
 key_of-requires c =
     let there = entry_there _ _ _ c.requires.0 _ (c.loop-at.invariant.along c.if-i-eq0.false) in
-    rw c.node_at-entry.ensures (there.2, size_right _ _ c.requires.0.loaded)
+    rw c.node-entry.ensures there.2
 
 pub put_entry-requires : goal.put_entry-requires
 put_entry-requires c =
     let e = c.loop-at.invariant in
-    (size_right _ _ c.requires.0.loaded, omega (arith, e.ends), e.most, omega arith, omega (arith, e.long))
+    (omega (arith, e.ends), e.most, omega arith, omega (arith, e.long))
 
 pub returns-in_err-end : goal.returns-in_err-end
 returns-in_err-end c =
-    let put = rw (c.key_of.ensures, c.node_at-entry.ensures) at c.put_entry.ensures in
+    let put = rw (c.key_of.ensures, c.node-entry.ensures) at c.put_entry.ensures in
     rw c.from_residual.ensures
     (entering_full _ _ _ _ _ _ _ _ _ _ _ _ _ c.requires.0 c.loop-at.invariant c.if-i-eq0.false c.loop-at-test.true c.requires.2 put c.in_err-end.was)
 
 pub loop-at-preserved : goal.loop-at-preserved
 loop-at-preserved c =
-    let put = rw (c.key_of.ensures, c.node_at-entry.ensures) at c.put_entry.ensures in
-    rw (c.onward-i.ensures, c.node_at-entry.ensures)
+    let put = rw (c.key_of.ensures, c.node-entry.ensures) at c.put_entry.ensures in
+    rw (c.onward-i.ensures, c.node-entry.ensures)
     (entering_more _ _ _ _ _ _ _ _ _ _ _ _ _ c.requires.0 c.loop-at.invariant c.if-i-eq0.false c.loop-at-test.true c.requires.2 put _ c.in_ok-end.was)
 
 pub returns-after-loop-at : goal.returns-after-loop-at

@@ -12,5 +12,5 @@ pub returns-in_default : goal.returns-in_default
 returns-in_default c =
     let a = c.args in
     let other = c.in_default in
-    let kept = puts_nothing a.at a.bytes.now c.requires.2 in
-    rw (prints_nothing a.image.now a.h _ a.v other.not-Bool other.not-Signed other.not-Text) (record { end = kept.0; bytes = kept.1 })
+    let kept = puts_nothing a.at a.bytes.now c.requires.1 in
+    rw (prints_nothing a.image.now.bytes.now a.image.now.header _ a.v other.not-Bool other.not-Signed other.not-Text) (record { end = kept.0; bytes = kept.1 })
