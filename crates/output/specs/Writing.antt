@@ -1,7 +1,7 @@
 -- Writing a value (01 'Output'): what the writers ask and promise.
-use Rattle.std.specs.Prelude.{ℕ, suc, ◌-◌, ◌*◌, ◌≤◌, ◌≡◌, Bool, List, [], ◌∷◌, length, get_or, Result, Ok, Err}
+use Rattle.std.specs.Prelude.{ℕ, suc, ◌-◌, ◌*◌, ◌≡◌, Bool, List, [], ◌∷◌, length, get_or, Result, Ok, Err}
 use Rattle.packed.specs.declared.layout.Header.{Header}
-use Rattle.packed.specs.Layout.{size_of}
+use Rattle.packed.specs.declared.image.Image.{Image}
 use Rattle.numbers.specs.Words.{word_of}
 use Rattle.numbers.specs.Floats.{float_word_of}
 use Rattle.rules.specs.declared.Value.{Value}
@@ -9,19 +9,15 @@ use Rattle.rules.specs.declared.Value.TheVariants.{Unit as VUnit, Bool as VBool,
 use Rattle.rules.specs.Store.{head, Store, text_of, count_in, value_in}
 use Rattle.rules.specs.Output.{Piece, put, Encoded, bits, nested, full, bytes_for, bool_bit, length_and_bytes, items_from, sorted_entries, entry_pieces, encoded}
 use Rattle.rules.specs.Runs.{out_of, value_encoded}
-use Rattle.stores.specs.Stores.{store_of, Fits}
+use Rattle.stores.specs.Stores.{store_of}
+use Rattle.stores.specs.declared.lent.Stores.{Stores}
+use Rattle.stores.specs.Lent.{seen}
 use Rattle.ordered.specs.Ordered.{key_text}
 use Rattle.pouring.specs.declared.Spot.{Spot}
 use Rattle.pouring.specs.declared.NoPlace.{NoPlace}
 use Rattle.pouring.specs.declared.NoPlace.TheVariants.{Nested, Full}
 use Rattle.pouring.specs.Pouring.{Poured, Passed, bits_before}
 use Rattle.stores.specs.declared.run.Run.{Run}
-
--- an image as long as its header says, and stores that fit
-pub record Sound (image : List ℕ) (h : Header) (run : Run) (words bytes : List ℕ) : Type 0 where
-  pub whole : size_of h ≤ length image
-  pub fits : Fits run words
-  pub room : length bytes ≡ 16384
 
 module _ (image : List ℕ) (h : Header) (σ : Store) where
   -- what stands before the values within a value, and those: together its pieces
@@ -58,6 +54,14 @@ pub record Encodes (image : List ℕ) (h : Header) (run : Run) (words bytes : Li
 -- pieces in which so many values may stand in one another, behind so many bits
 pub record Writes (image : List ℕ) (h : Header) (σ : Store) (allowance : ℕ) (writing : Bool) (s : Spot) (ps : List Piece) (out out' : List ℕ) (r : Result Spot NoPlace) : Type 0 where
   pub is : Passed image h σ (encoded image h σ allowance) writing (bits_before s) ps out out' r
+
+-- both of what is passed
+abbrev pub ValueWritten : Image → Stores → Value → ℕ → Bool → Spot → List ℕ → List ℕ → Result Spot NoPlace → Type 0
+ValueWritten image stores v allowance writing s out out' r = Encodes image.bytes.now image.header stores.run stores.words.now stores.bytes.now v allowance writing s out out' r
+
+abbrev pub PiecesWritten : Image → Stores → (List ℕ → Header → Store → List Piece) → ℕ → Bool → Spot → List ℕ → List ℕ → Result Spot NoPlace → Type 0
+PiecesWritten image stores ps allowance writing s out out' r =
+    Writes image.bytes.now image.header (seen stores) allowance writing s (ps image.bytes.now image.header (seen stores)) out out' r
 
 -- what was written of an encoding: so many bytes, or nothing and why
 abbrev pub written_of : Encoded → Result ℕ NoPlace

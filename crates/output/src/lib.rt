@@ -3,19 +3,17 @@
 #![tactic(auto)]
 
 ghost use Rattle.std.specs.Prelude.{◌≡◌, [], ◌∷◌, ◌+◌, ◌*◌, ◌/◌, ◌^◌, ◌≤◌, ◌<◌, length};
-ghost use Rattle.packed.specs.Layout.{size_of};
 ghost use Rattle.boxes.specs.Cells.{CellAt};
 ghost use Rattle.rules.specs.Output.{length_and_bytes, put as piece};
 ghost use Rattle.texts.specs.Text.{pool_text};
-ghost use Rattle.stores.specs.Stores.{Fits, store_of};
+ghost use Rattle.stores.specs.Lent.{seen};
 ghost use Rattle.pouring.specs.Pouring.{IsPlace, Puts, bits_before};
-ghost use Rattle.output.specs.Writing.{Sound, head_pieces, item_pieces, entry_piece, object_pieces, Encodes, Writes, Wrote};
+ghost use Rattle.output.specs.Writing.{head_pieces, item_pieces, entry_piece, object_pieces, ValueWritten, PiecesWritten, Wrote};
 
 use boxes::{cell_at, count_in};
 use numbers::word::{float_to_word, int_to_word};
 use ordered::{count_entries, key_at, next_entry};
 use packed::image::Image;
-use packed::layout::Header;
 use pouring::{NoPlace, Spot, put, put_bytes};
 use rules::Value;
 use slots::{length_of, start_of};
@@ -87,8 +85,8 @@ fn write_head(
     writing: bool,
     spot: Spot,
 ) -> Result<Spot, NoPlace>
-    requires { Sound image.now.bytes.now image.now.header stores.now.run stores.now.words.now stores.now.bytes.now × IsPlace spot out.old }
-    ensures { Puts writing (bits_before spot) (head_pieces image.now.bytes.now image.now.header (store_of stores.now.run stores.now.words.now stores.now.bytes.now) v) out.old out.new result }
+    requires { IsPlace spot out.old }
+    ensures { Puts writing (bits_before spot) (head_pieces image.now.bytes.now image.now.header (seen stores.now) v) out.old out.new result }
 {
     let made = stores.run.text as usize;
     match v {
@@ -100,15 +98,15 @@ fn write_head(
         Value::Char(c) => write_number(out, writing, spot, 5, 21, c as u64),
         Value::Text(s, l) => write_string(image, stores.bytes, made, 6, s, l, out, writing, spot),
         Value::Bytes(s, l) => write_string(image, stores.bytes, made, 7, s, l, out, writing, spot),
-        Value::Vec(c) => { write_number(out, writing, spot, 8, 12, count_in(stores, c as usize)) }
-        Value::Tuple(c) => { write_number(out, writing, spot, 9, 12, count_in(stores, c as usize)) }
-        Value::Object(c) => { write_number(out, writing, spot, 10, 12, count_entries(stores, c)) }
+        Value::Vec(c) => write_number(out, writing, spot, 8, 12, count_in(stores, c as usize)),
+        Value::Tuple(c) => write_number(out, writing, spot, 9, 12, count_in(stores, c as usize)),
+        Value::Object(c) => write_number(out, writing, spot, 10, 12, count_entries(stores, c)),
     }
 }
 
 // The value of the i-th item after a head; unit past the last cell.
 fn item_value(stores: &Stores, first: usize, i: u64) -> Value
-    requires { (first ≤ 4294967296) }
+    requires { first ≤ 4294967296 }
     ensures { CellAt result stores.now.run stores.now.words.now (first + i) }
 {
     if 1024 <= i {
@@ -128,8 +126,8 @@ fn write_any(
     writing: bool,
     spot: Spot,
 ) -> Result<Spot, NoPlace>
-    requires { Sound image.now.bytes.now image.now.header stores.now.run stores.now.words.now stores.now.bytes.now × IsPlace spot out.old }
-    ensures { Encodes image.now.bytes.now image.now.header stores.now.run stores.now.words.now stores.now.bytes.now v allowance writing spot out.old out.new result }
+    requires { IsPlace spot out.old }
+    ensures { ValueWritten image.now stores.now v allowance writing spot out.old out.new result }
 {
     if allowance == 0 {
         return Err(NoPlace::Nested);
@@ -140,7 +138,7 @@ fn write_any(
         Value::Vec(c) | Value::Tuple(c) => {
             write_items(image, stores, c, within, out, writing, spot)
         }
-        Value::Object(c) => { write_entries(image, stores, c, within, out, writing, spot) }
+        Value::Object(c) => write_entries(image, stores, c, within, out, writing, spot),
         _ => Ok(spot),
     }
 }
@@ -156,8 +154,8 @@ fn write_items(
     writing: bool,
     spot: Spot,
 ) -> Result<Spot, NoPlace>
-    requires { Sound image.now.bytes.now image.now.header stores.now.run stores.now.words.now stores.now.bytes.now × IsPlace spot out.old }
-    ensures { Writes image.now.bytes.now image.now.header (store_of stores.now.run stores.now.words.now stores.now.bytes.now) allowance writing spot (item_pieces image.now.bytes.now image.now.header (store_of stores.now.run stores.now.words.now stores.now.bytes.now) owner) out.old out.new result }
+    requires { IsPlace spot out.old }
+    ensures { PiecesWritten image.now stores.now (λ bytes h σ. item_pieces bytes h σ owner) allowance writing spot out.old out.new result }
 {
     let first = owner as usize + 1;
     let count = count_in(stores, owner as usize);
@@ -180,8 +178,8 @@ fn write_entry(
     writing: bool,
     spot: Spot,
 ) -> Result<Spot, NoPlace>
-    requires { Sound image.now.bytes.now image.now.header stores.now.run stores.now.words.now stores.now.bytes.now × IsPlace spot out.old }
-    ensures { Writes image.now.bytes.now image.now.header (store_of stores.now.run stores.now.words.now stores.now.bytes.now) allowance writing spot (entry_piece image.now.bytes.now image.now.header (store_of stores.now.run stores.now.words.now stores.now.bytes.now) i) out.old out.new result }
+    requires { IsPlace spot out.old }
+    ensures { PiecesWritten image.now stores.now (λ bytes h σ. entry_piece bytes h σ i) allowance writing spot out.old out.new result }
 {
     let key = key_at(stores, i);
     let spot = write_text(
@@ -209,8 +207,8 @@ fn write_entries(
     writing: bool,
     spot: Spot,
 ) -> Result<Spot, NoPlace>
-    requires { Sound image.now.bytes.now image.now.header stores.now.run stores.now.words.now stores.now.bytes.now × IsPlace spot out.old }
-    ensures { Writes image.now.bytes.now image.now.header (store_of stores.now.run stores.now.words.now stores.now.bytes.now) allowance writing spot (object_pieces image.now.bytes.now image.now.header (store_of stores.now.run stores.now.words.now stores.now.bytes.now) owner) out.old out.new result }
+    requires { IsPlace spot out.old }
+    ensures { PiecesWritten image.now stores.now (λ bytes h σ. object_pieces bytes h σ owner) allowance writing spot out.old out.new result }
 {
     let count = count_entries(stores, owner);
     let mut last = None;
@@ -243,8 +241,7 @@ pub fn write_value(
     v: Value,
     out: &mut [u8],
 ) -> Result<usize, NoPlace>
-    requires { Sound image.now.bytes.now image.now.header stores.now.run stores.now.words.now stores.now.bytes.now }
-    ensures { Wrote image.now.bytes.now image.now.header (store_of stores.now.run stores.now.words.now stores.now.bytes.now) v out.old out.new result }
+    ensures { Wrote image.now.bytes.now image.now.header (seen stores.now) v out.old out.new result }
 {
     let start = Spot { bytes: 0, bits: 0 };
     write_any(image, stores, v, 64, out, false, start)?;

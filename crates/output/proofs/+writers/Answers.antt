@@ -17,10 +17,10 @@ write_any-returns-in_err-spot t c =
     rw (p.1, p.2) (head_stuck c.args.v (omega arith) c.in_err-spot.ensures)
 
 pub write_any-write_items-requires : goal.write_any-write_items-requires
-write_any-write_items-requires t c = (omega arith, (c.requires.0, puts_place c.requires.1 c.in_ok-spot.ensures))
+write_any-write_items-requires t c = (omega arith, puts_place c.requires c.in_ok-spot.ensures)
 
 pub write_any-write_entries-requires : goal.write_any-write_entries-requires
-write_any-write_entries-requires t c = (omega arith, (c.requires.0, puts_place c.requires.1 c.in_ok-spot.ensures))
+write_any-write_entries-requires t c = (omega arith, puts_place c.requires c.in_ok-spot.ensures)
 
 pub write_any-returns-in-Vec : goal.write_any-returns-in-Vec
 write_any-returns-in-Vec t c = head_items c.args.v (omega arith) c.in_ok-spot.ensures c.in-Vec.is c.write_items.ensures
@@ -32,7 +32,7 @@ pub write_any-returns-in_default : goal.write_any-returns-in_default
 write_any-returns-in_default t c = head_alone c.args.v (omega arith) c.in_ok-spot.ensures c.in_default.not-Vec c.in_default.not-Tuple c.in_default.not-Object
 
 pub write_entries-loop-k-init : goal.write_entries-loop-k-init
-write_entries-loop-k-init t c = entries_start c.requires.1
+write_entries-loop-k-init t c = entries_start c.requires
 
 pub write_entries-returns-in_default : goal.write_entries-returns-in_default
 write_entries-returns-in_default t c = absurd (entries_none c.loop-k.invariant c.count_entries-count.ensures c.loop-k-test.true c.in_default.ensures)
@@ -56,7 +56,7 @@ write_entry-returns-in_err-spot t c =
     (key_puts c.args.image.now.bytes.now c.args.image.now.header c.args.stores.now.bytes.now c.key_at-key.result c.start_of.ensures c.length_of.ensures c.in_err-spot.ensures))
 
 pub write_entry-write_any-requires : goal.write_entry-write_any-requires
-write_entry-write_any-requires t c = (omega arith, (c.requires.0, puts_place c.requires.1 c.in_ok-spot.ensures))
+write_entry-write_any-requires t c = (omega arith, puts_place c.requires c.in_ok-spot.ensures)
 
 pub write_entry-returns : goal.write_entry-returns
 write_entry-returns t c =
@@ -65,7 +65,7 @@ write_entry-returns t c =
     c.cell_at-v.ensures c.write_any.ensures
 
 pub write_items-loop-i-init : goal.write_items-loop-i-init
-write_items-loop-i-init t c = items_start c.requires.1
+write_items-loop-i-init t c = items_start c.requires
 
 pub write_items-returns-in_err-end : goal.write_items-returns-in_err-end
 write_items-returns-in_err-end t c =

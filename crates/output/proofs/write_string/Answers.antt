@@ -10,7 +10,7 @@ returns-in_err-spot c =
     rw (p.1, p.2) (puts_stop _ c.in_err-spot.ensures)
 
 pub write_text-requires : goal.write_text-requires
-write_text-requires c = (c.requires.0, c.requires.1, puts_place c.requires.2 c.in_ok-spot.ensures)
+write_text-requires c = (c.requires.0, puts_place c.requires.1 c.in_ok-spot.ensures)
 
 pub returns : goal.returns
 returns c = puts_then c.in_ok-spot.ensures c.write_text.ensures
