@@ -5,18 +5,16 @@ use mathlib.Core.Logic.{◌⊎◌, inl, inr}
 use mathlib.Core.Bool.{true}
 use mathlib.Core.List.{List}
 use borrow.Author.Tests.{ltb-true}
-use lib.ListN.{length}
 use Rattle.packed.specs.declared.layout.Header.{Header}
 use Rattle.packed.specs.declared.layout.Node.{Node}
 use Rattle.kinds.specs.declared.Role.{Role}
 use Rattle.kinds.specs.declared.Role.TheVariants.{Literal, Function}
-use Rattle.packed.specs.Layout.{node_at, size_of}
+use Rattle.packed.specs.Layout.{node_at}
 use Rattle.kinds.specs.Kinds.{tag_role, row_of, table}
 use Rattle.records.specs.Records.{fits}
 use Rattle.image.proofs.Loads.{node_loaded}
 use Rattle.building.specs.Making.{IsKind}
 use Rattle.targets.specs.Reading.{IsTarget}
-use Rattle.building.proofs.ChainLaws.{size_right}
 use Rattle.targets.proofs.TargetNodes.{target_of}
 use Rattle.outcomes.specs.Outcomes.{IsNode}
 
