@@ -191,6 +191,7 @@ module _ {image : List ℕ} {h : Header} {t₀ : Ctl} {fs₀ : List Frame} {run 
   pub made_post : {r : Result Value WasRefused} {f : Store → Made}
       → ((K : List Frame) → Go image h (takes_of run) (going t₀ (fs₀ ++ K) (store_of run words bytes)) (takes_of run) (made image h K (f (store_of run words bytes))))
       → Makes r f run words bytes run₁ words₁ bytes₁ → Post image h t₀ fs₀ run words bytes run₁ words₁ bytes₁ (got_of r)
+  unfolding store_of
   made_post {r = Ok v} p m = ended (λ K. rw m.kept.takes (to (p K) (ap (made image h K) m.did))) m.kept.fits m.kept.room
   made_post {r = Err e} p m = refused (λ K. rw m.kept.takes (to (p K) (ap (made image h K) m.did))) m.kept.fits m.kept.room
 
@@ -198,6 +199,7 @@ module _ {image : List ℕ} {h : Header} {t₀ : Ctl} {fs₀ : List Frame} {run 
   pub wrote_post : {r : Result (Unit {0}) WasRefused} {f : Store → Wrote}
       → ((K : List Frame) → Go image h (takes_of run) (going t₀ (fs₀ ++ K) (store_of run words bytes)) (takes_of run) (wrote image h K (f (store_of run words bytes))))
       → Writes r f run words bytes run₁ words₁ bytes₁ → Post image h t₀ fs₀ run words bytes run₁ words₁ bytes₁ (written_of r)
+  unfolding store_of
   wrote_post {r = Ok u} p m = ended (λ K. rw m.kept.takes (to (p K) (ap (wrote image h K) m.did))) m.kept.fits m.kept.room
   wrote_post {r = Err e} p m = refused (λ K. rw m.kept.takes (to (p K) (ap (wrote image h K) m.did))) m.kept.fits m.kept.room
 
@@ -205,6 +207,7 @@ module _ {image : List ℕ} {h : Header} {t₀ : Ctl} {fs₀ : List Frame} {run 
   pub bound_post : {r : Bool} {f : Store → Option Store} (n : ℕ) (v : Value)
       → ((K : List Frame) → Go image h (takes_of run) (going t₀ (fs₀ ++ K) (store_of run words bytes)) (takes_of run) (bound image h n v K (f (store_of run words bytes))))
       → Tried r f run words bytes run₁ words₁ bytes₁ → Post image h t₀ fs₀ run words bytes run₁ words₁ bytes₁ (bound_of r n v)
+  unfolding store_of
   bound_post {r = true} n v p m = ended (λ K. rw m.kept.takes (to (p K) (ap (bound image h n v K) m.did))) m.kept.fits m.kept.room
   bound_post {r = false} n v p m = refused (λ K. rw m.kept.takes (to (p K) (ap (bound image h n v K) m.did))) m.kept.fits m.kept.room
 
@@ -212,7 +215,7 @@ module _ {image : List ℕ} {h : Header} {t₀ : Ctl} {fs₀ : List Frame} {run 
   pub became_post : {f : Store → Store} {v : Value}
       → ((K : List Frame) → Go image h (takes_of run) (going t₀ (fs₀ ++ K) (store_of run words bytes)) (takes_of run) (going (ret v) K (f (store_of run words bytes))))
       → Became f run words bytes run₁ words₁ bytes₁ → Post image h t₀ fs₀ run words bytes run₁ words₁ bytes₁ (Done v)
-  became_post p m = ended (λ K. rw (m.kept.takes, m.store) (p K)) m.kept.fits m.kept.room
+  became_post p m = ended (λ K. rw (m.store, m.kept.takes) (p K)) m.kept.fits m.kept.room
 
 -- ---- what is neither a value nor a break stays as it is, whatever frames wait
 
