@@ -215,8 +215,7 @@ module _ {image : List ℕ} {h : Header} {t₀ : Ctl} {fs₀ : List Frame} {run 
   pub became_post : {f : Store → Store} {v : Value}
       → ((K : List Frame) → Go image h (takes_of run) (going t₀ (fs₀ ++ K) (store_of run words bytes)) (takes_of run) (going (ret v) K (f (store_of run words bytes))))
       → Became f run words bytes run₁ words₁ bytes₁ → Post image h t₀ fs₀ run words bytes run₁ words₁ bytes₁ (Done v)
-  unfolding store_of
-  became_post p m = ended (λ K. rw (m.kept.takes, m.store) (p K)) m.kept.fits m.kept.room
+  became_post p m = ended (λ K. rw (m.store, m.kept.takes) (p K)) m.kept.fits m.kept.room
 
 -- ---- what is neither a value nor a break stays as it is, whatever frames wait
 
