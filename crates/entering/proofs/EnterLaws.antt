@@ -3,10 +3,8 @@ use Prim.Native.Nat.{ℕ, zero, suc, ◌-◌, ◌≤◌, ◌<◌}
 use native.Mathlib.Omega.{arith}
 use mathlib.Core.Path.{◌≡◌, refl}
 use mathlib.Core.Bool.{Bool, true, false, ◌&&◌, ◌||◌, cond}
-use mathlib.Core.List.{List, [], ◌∷◌}
+use mathlib.Core.List.{List, []}
 use lib.Dec.{eqb, ltb}
-use lib.ListN.{set}
-use lib.Seq.{get_or-set_same}
 use borrow.Author.Tests.{eqb-true, lt-ltb, le-ltb}
 use Rattle.packed.specs.declared.layout.Header.{Header}
 use Rattle.packed.specs.Layout.{node_at}
@@ -23,7 +21,6 @@ use Rattle.outcomes.specs.Post.{Starved}
 use Rattle.entering.specs.Entering.{HasEntered, Took, took, deep, spent}
 use Rattle.outcomes.proofs.KindLaws.{every_kind}
 use Rattle.stores.specs.declared.run.Run.{Run}
-use Rattle.stores.specs.Run.{set_takes}
 
 -- ---- how often each kind takes
 
