@@ -1,5 +1,5 @@
 // A scope left.
-ghost use Rattle.std.specs.Prelude.{[], ◌∷◌};
+ghost use Rattle.std.specs.Prelude.{◌≡◌, [], ◌∷◌};
 ghost use Rattle.rules.specs.Machine.{Frame};
 ghost use Rattle.outcomes.specs.Lent.{StoresEveryAfter};
 
