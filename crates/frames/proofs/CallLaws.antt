@@ -66,27 +66,26 @@ module _ (first from : ℕ) (σ : Store) where
       go true room e = cc
       go false room e = (ltb-false most_bindings bindings room, cc)
 
-counted : (run : Run) (words bytes : List ℕ) (from count : ℕ) → count ≡ pending_of run - from → length (drop from (store_of run words bytes).pending) ≡ count
-counted run words bytes from count counts =
-    length-drop from (store_of run words bytes).pending ∙ ap (λ (m : ℕ). m - from) (length-pending run words bytes) ∙ sym counts
-
 -- ---- a call whose arguments are all there: `function` is what it names, and `count` are pending
 
-module _ {image : List ℕ} {h : Header} {n : ℕ} (is : IsKind 16 image h n) {run : Run} {words bytes : List ℕ} (room : Fits run words) (from : ℕ)
+module _ {image : List ℕ} {h : Header} {n : ℕ} (is : IsKind 16 image h n) {run : Run} {words : List ℕ} (room : Fits run words) (from : ℕ)
     (function : Function) (names : function ≡ function_at image (node_at image h n).tag) (count : ℕ) (counts : count ≡ pending_of run - from) where
-  pub wrong_number : (count ≡ function.count → ⊥) → CallEnters image h n from run words bytes run words bytes (Break (Refused ArgumentCount n))
+  counted : (bytes : List ℕ) → length (drop from (store_of run words bytes).pending) ≡ count
+  counted bytes = length-drop from (store_of run words bytes).pending ∙ ap (λ (m : ℕ). m - from) (length-pending run words bytes) ∙ sym counts
+
+  pub wrong_number : {bytes : List ℕ} → (count ≡ function.count → ⊥) → CallEnters image h n from run words bytes run words bytes (Break (Refused ArgumentCount n))
   unfolding kind_of kinds
-  wrong_number differs =
+  wrong_number {bytes} differs =
       λ d.
       out_of _ _
       (refused
-      (λ K. wrong_count refl (ap kind_of is.same) (λ e. differs (sym (counted run words bytes from count counts) ∙ e ∙ ap (λ (f : Function). f.count) (sym names))))
+      (λ K. wrong_count refl (ap kind_of is.same) (λ e. differs (sym (counted bytes) ∙ e ∙ ap (λ (f : Function). f.count) (sym names))))
       room
       refl)
 
-  module _ (right : count ≡ function.count) {r : Bool} {run' : Run} {words' bytes' : List ℕ} (t : Tried r (arguments_bound function.first from) run words bytes run' words' bytes') where
+  module _ (right : count ≡ function.count) {r : Bool} {bytes : List ℕ} {run' : Run} {words' bytes' : List ℕ} (t : Tried r (arguments_bound function.first from) run words bytes run' words' bytes') where
     same : length (drop from (store_of run words bytes).pending) ≡ (function_at image (node_at image h n).tag).count
-    same = counted run words bytes from count counts ∙ right ∙ ap (λ (f : Function). f.count) names
+    same = counted bytes ∙ right ∙ ap (λ (f : Function). f.count) names
 
     pub not_bound : r ≡ false → CallEnters image h n from run words bytes run' words' bytes' (Break (Refused Bindings n))
     unfolding kind_of kinds

@@ -7,15 +7,9 @@ use Rattle.building.proofs.TemplateLaws.{printing_begins, printing_more, printin
 use Rattle.building.proofs.put_components.Goals as goal
 use Rattle.building.proofs.put_components.Goals.{then-node-eq17+in_ok-end, else-node-eq17+in-Some+in_ok-end-2}
 
-pub node-i-requires : goal.node-i-requires
-node-i-requires c = (c.requires.0.first, c.requires.0.last)
-
 pub loop-i-init : goal.loop-i-init
 loop-i-init c =
     record { printing = rw c.node-i.ensures (printing_begins _ _ _ _ _ _ _ _ c.requires.0 c.requires.2); last = refl; run = refl; words = refl }
-
-pub node-node-requires : goal.node-node-requires
-node-node-requires c = (omega (arith, c.loop-i-test.true), c.loop-i.invariant.printing.node)
 
 pub key_of-requires : goal.key_of-requires
 key_of-requires c =
@@ -39,11 +33,6 @@ returns-in_default-clause-put c =
     let steps = c.in_default.ensures.steps in
     items_end _ _ _ _ _ _ _ _ c.requires.0 _ _ _ _ c.loop-i.invariant.printing c.loop-i-test.true (λ e. c.if-node-eq17.false (kind ∙ e))
     (omega (arith, steps, c.loop-i.invariant.last))
-
-pub put_value-requires : goal.put_value-requires
-put_value-requires c =
-    let p = c.loop-i.invariant.printing in
-    (p.above, omega (arith, p.within, p.long))
 
 pub returns-in_err-end-2-clause-put : goal.returns-in_err-end-2-clause-put
 returns-in_err-end-2-clause-put c =

@@ -1,11 +1,7 @@
 -- The loop's invariant is `Entering`.
-use native.Mathlib.Omega.{arith}
 use Rattle.building.proofs.ChainLaws.{entry_there}
 use Rattle.building.proofs.ObjectLaws.{entering_begins, items_end, chain_ends, entering_more, entering_full}
 use Rattle.building.proofs.put_entries.Goals as goal
-
-pub node-i-requires : goal.node-i-requires
-node-i-requires c = (c.requires.0.first, c.requires.0.last)
 
 pub loop-at-init : goal.loop-at-init
 loop-at-init c = rw c.node-i.ensures (entering_begins _ _ _ _ _ _ _ c.requires.1)
@@ -19,11 +15,6 @@ pub key_of-requires : goal.key_of-requires
 key_of-requires c =
     let there = entry_there _ _ _ c.requires.0 _ (c.loop-at.invariant.along c.if-i-eq0.false) in
     rw c.node-entry.ensures there.2
-
-pub put_entry-requires : goal.put_entry-requires
-put_entry-requires c =
-    let e = c.loop-at.invariant in
-    (omega (arith, e.ends), e.most, omega arith, omega (arith, e.long))
 
 pub returns-in_err-end : goal.returns-in_err-end
 returns-in_err-end c =

@@ -8,9 +8,6 @@ use Rattle.targets.proofs.+read_most.Goals as goal
 pub returns-then-most-eq0 : goal.returns-then-most-eq0
 returns-then-most-eq0 t c = read_none _ _ _ _ _ _ c.if-most-eq0.true
 
-pub node-node-requires : goal.node-node-requires
-node-node-requires t c = (c.requires.first, c.requires.last)
-
 pub returns-in_err-place : goal.returns-in_err-place
 returns-in_err-place t c =
     rw (error_is _ _ c.from_residual.ensures.1)

@@ -3,9 +3,6 @@ use Rattle.targets.proofs.TargetNodes.{part_before, key_there}
 use Rattle.targets.proofs.TargetLaws.{error_is, place_name, place_field, place_index, place_stopped}
 use Rattle.targets.proofs.target_place.Goals as goal
 
-pub node-node-requires : goal.node-node-requires
-node-node-requires c = (c.requires.first, c.requires.last)
-
 pub returns-then-node-eq21 : goal.returns-then-node-eq21
 returns-then-node-eq21 c = place_name _ _ _ _ _ _ c.node-node.ensures _ c.if-node-eq21.true c.name_place.ensures
 
