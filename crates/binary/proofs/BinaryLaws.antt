@@ -31,7 +31,7 @@ use Rattle.outcomes.specs.declared.Outcome.TheVariants.{Done}
 use Rattle.outcomes.specs.Outcomes.{got_of}
 use Rattle.binary.specs.Binary.{not_const, got_of_numbers, text_pair, float_pair}
 use Rattle.outcomes.specs.Post.{After}
-use Rattle.outcomes.proofs.Ways.{NoValue, after_past, made_post}
+use Rattle.outcomes.proofs.Ways.{made_post}
 use Rattle.stores.specs.declared.run.Run.{Run}
 
 -- ---- what a value is not

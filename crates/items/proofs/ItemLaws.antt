@@ -100,6 +100,7 @@ module _ (image : List ℕ) (h : Header) (n : ℕ) (d : Node) (node : d ≡ node
 
     module _ {kept : Bool} {run' : Run} {words' bytes' : List ℕ} (e : j ≡ Ok tt) (t : Tried kept (pushed_if_room v) run words bytes run' words' bytes') where
       pub item_pending : kept ≡ true → ItemAccepts image h n i v run words bytes run' words' bytes' (Continue tt)
+      unfolding store_of
       item_pending room depth from =
           let σ = store_of run words bytes in
           let both = room_left v σ (store_of run' words' bytes') (rw room at t.did) in
@@ -125,6 +126,7 @@ module _ {image : List ℕ} {h : Header} {n i from : ℕ} {one : Outcome} {run :
   -- "They are given back when the node ends or a break leaves it"
   pub item_broken : {b : ℕ} {v : Value} → one ≡ Broke b v → Became (dropped from) run words bytes run' words' bytes'
       → ItemEnds image h n i from one run words bytes run' words' bytes' (Break (Broke b v))
+  unfolding store_of
   item_broken {b} {v} e x depth =
       rw e (record {
         ways = λ first last.
