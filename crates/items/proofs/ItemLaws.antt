@@ -100,6 +100,7 @@ module _ (image : List ℕ) (h : Header) (n : ℕ) (d : Node) (node : d ≡ node
 
     module _ {kept : Bool} {run' : Run} {words' bytes' : List ℕ} (e : j ≡ Ok tt) (t : Tried kept (pushed_if_room v) run words bytes run' words' bytes') where
       pub item_pending : kept ≡ true → ItemAccepts image h n i v run words bytes run' words' bytes' (Continue tt)
+      unfolding store_of
       item_pending room depth from =
           let σ = store_of run words bytes in
           let both = room_left v σ (store_of run' words' bytes') (rw room at t.did) in
@@ -130,7 +131,7 @@ module _ {image : List ℕ} {h : Header} {n i from : ℕ} {one : Outcome} {run :
         ways = λ first last.
             out_of _ _
             (record {
-              ways = (record { path = λ K. rw x.kept.takes (to break_drops (ap (going (brk b v) K) (sym x.store))) }, first, last);
+              ways = (record { path = λ K. rw (x.store, x.kept.takes) break_drops }, first, last);
               fits = x.kept.fits;
               room = x.kept.room;
             });
