@@ -132,7 +132,7 @@ module _ {image : List ℕ} {h : Header} {n i from : ℕ} {one : Outcome} {run :
         ways = λ first last.
             out_of _ _
             (record {
-              ways = (record { path = λ K. rw x.kept.takes (to break_drops (ap (going (brk b v) K) (sym x.store))) }, first, last);
+              ways = (record { path = λ K. rw (x.store, x.kept.takes) break_drops }, first, last);
               fits = x.kept.fits;
               room = x.kept.room;
             });
