@@ -1,6 +1,6 @@
 -- The laws of targets: what was found decides the place, and the place what is read and written. Assumes nothing.
 use mathlib.Core.Path.{◌≡◌, refl, sym, ap, ◌∙◌}
-use mathlib.Core.Bool.{Bool, true, false, cond}
+use mathlib.Core.Bool.{cond}
 use mathlib.Core.List.{List, []}
 use mathlib.Core.Option.{Option as Maybe, some, none}
 use Prim.Native.Nat.{ℕ, suc, ◌-◌}
@@ -14,21 +14,20 @@ use Rattle.std.specs.Result.{IsErrAnd}
 use Rattle.std.proofs.lemmas.Result.{err_from_is_err_and}
 use Rattle.packed.specs.declared.layout.Header.{Header}
 use Rattle.packed.specs.declared.layout.Node.{Node}
-use Rattle.packed.specs.Layout.{node_at, literal_at}
+use Rattle.packed.specs.Layout.{node_at}
 use Rattle.numbers.specs.declared.OpError.{OpError}
 use Rattle.numbers.specs.declared.OpError.TheVariants.{Arithmetic as ArithmeticError, NotConst, Unlisted}
 use Rattle.numbers.specs.Ints.{assign_of}
 use Rattle.rules.specs.declared.Value.{Value}
-use Rattle.rules.specs.declared.Refusal.TheVariants.{Cells, MissingField, ExpectedType}
+use Rattle.rules.specs.declared.Refusal.TheVariants.{MissingField, ExpectedType}
 use Rattle.rules.specs.declared.Refused.{Refused}
 use Rattle.rules.specs.declared.Place.{Place}
 use Rattle.rules.specs.declared.Place.TheVariants.{Binding, Cell, Absent}
 use Rattle.rules.specs.Store.{Store, sought, item_at, as_object, as_items, as_signed, bound_at, rebound, cell_at, stored_at}
-use Rattle.rules.specs.Targets.{Wrote, done, refused, refusing, name_place, field_place, index_in, index_place, read_at, after_read, read_target, target_read, part_place, target_place, entered_in, set_place, target_set, assigned, assign_to, assign_place, target_assigned}
+use Rattle.rules.specs.Targets.{Wrote, done, refused, refusing, name_place, field_place, index_in, index_place, read_at, after_read, read_target, target_read, part_place, target_place, set_place, target_set, assigned, assign_to, assign_place, target_assigned}
 use Rattle.stores.specs.Finding.{found_of}
-use Rattle.boxes.specs.Cells.{field_entered}
-use Rattle.stores.specs.Stores.{store_of, Fits, BecameWords, TriedWords}
-use Rattle.targets.specs.Reading.{Placed, Gets, computed, assigned_of, assigned_value, put_in, field_set, WritesWords}
+use Rattle.stores.specs.Stores.{store_of, Fits, BecameWords}
+use Rattle.targets.specs.Reading.{Placed, Gets, computed, assigned_of, assigned_value, put_in, WritesWords}
 
 abbrev pub option_of : Option ℕ → Maybe ℕ
 option_of (Some i) = some i
@@ -186,20 +185,6 @@ module _ (run words : List ℕ) where
 
   pub refuses : (g : Store → Wrote) (r : Refused) → Fits run words → ((bytes : List ℕ) → g (store_of run words bytes) ≡ refused r.why r.place) → WritesWords (Err r) g run words run words
   refuses g r f e bytes = record { did = e bytes; undone = λ _ _. refl; kept = record { fits = f; room = refl; takes = refl; rest = refl } }
-
-  -- a new field, or 8 at the target
-  module _ (image : List ℕ) (h : Header) (t owner key : ℕ) (v : Value) (run' words' : List ℕ) (d : Node) (node : d ≡ node_at image h t) (key_is : key ≡ (literal_at image h d.b).payload) where
-    set_is : (b : Bool) → TriedWords b (field_entered owner key v) run words run' words'
-        → (bytes : List ℕ) → field_set image h t owner v (store_of run words bytes) ≡ entered_in t (cond b (some (store_of run' words' bytes)) none)
-    set_is b w bytes =
-        ap (λ (q : ℕ). entered_in t (field_entered owner q v (store_of run words bytes))) (sym (key_is ∙ ap (λ (e : Node). (literal_at image h e.b).payload) node))
-        ∙ ap (entered_in t) (w bytes).did
-
-    pub field_set_lem : TriedWords true (field_entered owner key v) run words run' words' → WritesWords (Ok tt) (field_set image h t owner v) run words run' words'
-    field_set_lem w bytes = record { did = set_is true w bytes; undone = λ r z. absurd (cc); kept = (w bytes).kept }
-
-    pub field_not_set : TriedWords false (field_entered owner key v) run words run' words' → WritesWords (Err (refusing Cells t)) (field_set image h t owner v) run words run' words'
-    field_not_set w bytes = record { did = set_is false w bytes; undone = λ _ _. (w bytes).undone refl; kept = (w bytes).kept }
 
 -- a value put at the place of a target that is set
 pub set_at : (image : List ℕ) (h : Header) (t : ℕ) (v : Value) (place : Place) → ((owner : ℕ) → place ≡ Absent owner → ⊥) → (σ : Store) → set_place image h σ t v (Ok place) ≡ done (put_in place v σ)
