@@ -34,7 +34,7 @@ same_header image h k p q = (header_right image h p).is ∙ sym (header_right im
 
 -- an image that loads is not refused
 not_unloaded : (x : Result Header LoadError) (error : LoadError) (h : Header) → x ≡ Err error → x ≡ Ok h → ⊥
-not_unloaded x error h e q = let z : ◌≡◌ {A = ℕ} 0 1 = cc in omega arith
+not_unloaded x error h e q = cc
 
 same_error : (x : Result Header LoadError) (a b : LoadError) → x ≡ Err a → x ≡ Err b → a ≡ b
 same_error x a b e q = cc

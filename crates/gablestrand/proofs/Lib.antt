@@ -1,4 +1,3 @@
 pub mod Demands
 mod RootLaws
-mod FinishLaws
 mod Clearing

@@ -75,34 +75,30 @@ module _ (image : List ℕ) (h : Header) (budget : ℕ) (words bytes run' words'
       → Budgeted image h out (start image h) budget (ARefused why place (budget - takes_of run')) out
   stops why place out way = ended (record { comes = comes (takes_of run') (stop why place) way; end = refused }) (omega arith) stopped
 
-module _ {image : List ℕ} {h : Header} {budget : ℕ} {words bytes run' words' bytes' : List ℕ} {r : Outcome} where
-  pub left_within : AtRoot image h budget words bytes run' words' bytes' r → takes_of run' ≤ budget
-  left_within p = within image h budget words bytes run' words' bytes' r p.ways
+module _ {image : List ℕ} {h : Header} {budget : ℕ} {words bytes run' words' bytes' : List ℕ} where
+  pub left_within : {r : Outcome} → AtRoot image h budget words bytes run' words' bytes' r → takes_of run' ≤ budget
+  left_within {r} p = within image h budget words bytes run' words' bytes' r p.ways
 
-  pub done : {v : Value} {out out' : List ℕ} {a : Answer} → AtRoot image h budget words bytes run' words' bytes' r → r ≡ Done v
+  pub done : {v : Value} {out out' : List ℕ} {a : Answer} → AtRoot image h budget words bytes run' words' bytes' (Done v)
       → Finished image h (store_of run' words' bytes') v (budget - takes_of run') out out' a → Budgeted image h out (start image h) budget a out'
-  done {v} {out} {out'} {a} p e f =
+  done {v} {out} {out'} {a} p f =
       let σ = store_of run' words' bytes' in
-      let way = (subst (AtRoot image h budget words bytes run' words' bytes') e p).ways.path [] in
       subst (λ (o : List ℕ). Budgeted image h out (start image h) budget a o) (sym f.left)
       (subst (λ (b : Answer). Budgeted image h out (start image h) budget b (out_of image h out (value_encoded image h out v σ))) (sym f.answers)
-      (ended (record { comes = comes image h budget words bytes run' words' bytes' (takes_of run') (going (ret v) [] σ) way; end = finished }) (omega arith) valued))
+      (ended (record { comes = comes image h budget words bytes run' words' bytes' (takes_of run') (going (ret v) [] σ) (p.ways.path []); end = finished }) (omega arith) valued))
 
-  pub broke : {b : ℕ} {v : Value} {out : List ℕ} → AtRoot image h budget words bytes run' words' bytes' r → r ≡ Broke b v
+  pub broke : {b : ℕ} {v : Value} {out : List ℕ} → AtRoot image h budget words bytes run' words' bytes' (Broke b v)
       → Budgeted image h out (start image h) budget (ARefused BreakOutside b (budget - takes_of run')) out
-  broke {b} {v} {out} p e =
-      let way = (subst (AtRoot image h budget words bytes run' words' bytes') e p).ways.0.path [] in
-      stops image h budget words bytes run' words' bytes' BreakOutside b out (way then break_at_root)
+  broke {b} {v} {out} p = stops image h budget words bytes run' words' bytes' BreakOutside b out (p.ways.0.path [] then break_at_root)
 
-  pub stopped_at : {why : Refusal} {place : ℕ} {out : List ℕ} → AtRoot image h budget words bytes run' words' bytes' r → r ≡ Refused why place
+  pub stopped_at : {why : Refusal} {place : ℕ} {out : List ℕ} → AtRoot image h budget words bytes run' words' bytes' (Refused why place)
       → Budgeted image h out (start image h) budget (ARefused why place (budget - takes_of run')) out
-  stopped_at {why} {place} {out} p e =
-      stops image h budget words bytes run' words' bytes' why place out ((subst (AtRoot image h budget words bytes run' words' bytes') e p).ways.path [])
+  stopped_at {why} {place} {out} p = stops image h budget words bytes run' words' bytes' why place out (p.ways.path [])
 
-  pub starved : {place : ℕ} {out : List ℕ} → AtRoot image h budget words bytes run' words' bytes' r → r ≡ Spent place
+  pub starved : {place : ℕ} {out : List ℕ} → AtRoot image h budget words bytes run' words' bytes' (Spent place)
       → Budgeted image h out (start image h) budget (ASpent place (budget - takes_of run')) out
-  starved {place} {out} p e =
-      let way = (subst (AtRoot image h budget words bytes run' words' bytes') e p).ways in
+  starved {place} {out} p =
+      let way = p.ways in
       let all : budget - takes_of run' ≡ budget = omega (arith, way.none) in
       subst (λ (k : ℕ). Budgeted image h out (start image h) budget (ASpent place k) out) (sym all)
       (spent (record {

@@ -6,14 +6,15 @@ ghost use Rattle.image.specs.Load.{load_of};
 ghost use Rattle.rules.specs.Runs.{start, Budgeted};
 ghost use Rattle.stores.specs.Stores.{store_of};
 ghost use Rattle.output.specs.Writing.{Sound};
-ghost use Rattle.gablestrand.specs.Evaluate.{store_words, store_bytes, zeros, Decided, Evaluated, Told, length_of};
+ghost use Rattle.gablestrand.specs.Evaluate.{store_words, store_bytes, Decided, Evaluated, Told, length_of};
 ghost use Rattle.gablestrand.specs.Answering.{Finished};
 
 use eval::ir_expr;
-use image::{Loaded, load};
+use image::load;
 use outcomes::Outcome;
-use output::{Written, write_value};
+use output::write_value;
 use packed::layout::Header;
+use pouring::NoPlace;
 use rules::{Answer, Refusal, Value};
 use stores::run::TAKES;
 
@@ -36,11 +37,11 @@ fn finish(
     requires { Sound image.now h run.now words.now bytes.now }
     ensures { Finished image.now h (store_of run.now words.now bytes.now) v steps out.old out.new result }
 {
-    let written = write_value(image, h, words, bytes, run, v, out);
-    match written {
-        Written::Length(length) => Answer::Value(length, steps),
-        Written::Nested => Answer::Refused(Refusal::Nesting, h.root as usize, steps),
-        Written::Full => Answer::Refused(Refusal::Room, h.root as usize, steps),
+    let root = usize::from(h.root);
+    match write_value(image, h, words, bytes, run, v, out) {
+        Ok(length) => Answer::Value(length, steps),
+        Err(NoPlace::Nested) => Answer::Refused(Refusal::Nesting, root, steps),
+        Err(NoPlace::Full) => Answer::Refused(Refusal::Room, root, steps),
     }
 }
 
@@ -62,9 +63,9 @@ fn run_image(
     let steps = budget - run[TAKES];
     match outcome {
         Outcome::Done(v) => finish(image, h, words, bytes, &run, v, steps, out),
-        Outcome::Broke(n, _) => Answer::Refused(Refusal::BreakOutside, n as usize, steps),
-        Outcome::Refused(why, place) => Answer::Refused(why, place as usize, steps),
-        Outcome::Spent(place) => Answer::Spent(place as usize, steps),
+        Outcome::Broke(n, _) => Answer::Refused(Refusal::BreakOutside, usize::from(n), steps),
+        Outcome::Refused(why, place) => Answer::Refused(why, usize::from(place), steps),
+        Outcome::Spent(place) => Answer::Spent(usize::from(place), steps),
     }
 }
 
@@ -79,30 +80,9 @@ fn answer_of(
     requires { (length words.old ≡ store_words) × (length bytes.old ≡ store_bytes) }
     ensures { Decided image.now budget out.old result out.new }
 {
-    let loaded = load(image);
-    if let Loaded::Image(h) = loaded {
-        return run_image(image, h, budget, words, bytes, out);
-    }
-    Answer::NotLoaded(loaded.number(), loaded.place())
-}
-
-fn clear_words(words: &mut [u64])
-    ensures { words.new ≡ zeros (length words.old) }
-{
-    let mut i = 0;
-    while i < words.len() {
-        words[i] = 0;
-        i = i + 1;
-    }
-}
-
-fn clear_bytes(bytes: &mut [u8])
-    ensures { bytes.new ≡ zeros (length bytes.old) }
-{
-    let mut i = 0;
-    while i < bytes.len() {
-        bytes[i] = 0;
-        i = i + 1;
+    match load(image) {
+        Ok(h) => run_image(image, h, budget, words, bytes, out),
+        Err(error) => Answer::NotLoaded(error),
     }
 }
 
@@ -116,15 +96,14 @@ pub fn evaluate(
 ) -> Answer
     ensures { Evaluated image.now budget words.old bytes.old out.old result words.new bytes.new out.new }
 {
-    if words.len() < WORDS {
+    if words.len() < WORDS || bytes.len() < BYTES {
         return Answer::StoreTooShort;
     }
-    if bytes.len() < BYTES {
-        return Answer::StoreTooShort;
-    }
-    let answer = answer_of(image, budget, &mut words[..WORDS], &mut bytes[..BYTES], out);
-    clear_words(&mut words[..WORDS]);
-    clear_bytes(&mut bytes[..BYTES]);
+    let words = &mut words[..WORDS];
+    let bytes = &mut bytes[..BYTES];
+    let answer = answer_of(image, budget, words, bytes, out);
+    words.fill(0);
+    bytes.fill(0);
     answer
 }
 
@@ -134,10 +113,7 @@ fn length_of(answer: Answer) -> u64
 {
     match answer {
         Answer::Value(length, _) => length as u64,
-        Answer::Refused(_, _, _) => 0,
-        Answer::Spent(_, _) => 0,
-        Answer::NotLoaded(_, _) => 0,
-        Answer::StoreTooShort => 0,
+        _ => 0,
     }
 }
 

@@ -4,13 +4,12 @@ use mathlib.Core.Bool.{Bool, true, ◌&&◌}
 use mathlib.Core.List.{List, [], ◌∷◌, ◌++◌}
 use Prim.Native.Nat.{ℕ, zero, suc, ◌+◌, ◌-◌, ◌≤◌}
 use native.Mathlib.Nat.{sub-zero, zero-sub, suc-sub-suc}
-use native.Mathlib.Decide.{dec_le}
 use native.Mathlib.Omega.{arith}
 use borrow.Author.Tests.{eq-eqb}
 use lib.Dec.{eqb}
-use lib.ListN.{length, take, drop, length-take, drop_of_length-le}
-use lib.Seq.{slice, slice_empty, length-slice, take_all, take-take, take-nil, drop-nil, drop-drop}
-use Rattle.std.specs.Prelude.{min, Some}
+use lib.ListN.{length, take, drop, length-take}
+use lib.Seq.{slice, length-slice, take-nil, drop-nil, drop-drop}
+use Rattle.std.specs.Prelude.{Some}
 use Rattle.std.specs.Str.{bytes_eq}
 use Rattle.std.specs.Ordering.{nat_cmp, is_some_and, is_le}
 use Rattle.std.specs.Cmp.Lexicographic.{slice_partial_cmp}
@@ -24,27 +23,6 @@ use Rattle.std.proofs.lemmas.List.{drop-take}
 
 pub length_part : (s n : ℕ) (l : List ℕ) → s + n ≤ length l → length (slice s (s + n) l) ≡ n
 length_part s n l h = length-slice s (s + n) l h ∙ omega arith
-
--- a part of the first t: from t on if it begins past them, and no more than they have left
-pub first_part_is : (t s n f c : ℕ) (l : List ℕ) → f ≡ min s t → c ≡ min n (t - f) → slice s (s + n) (take t l) ≡ slice f (f + c) l
-first_part_is t s n f c l e g = go (dec_le t s) (dec_le (s + n) t)
-  where
-    go : Dec (t ≤ s) → Dec (s + n ≤ t) → slice s (s + n) (take t l) ≡ slice f (f + c) l
-    go (yes past) q =
-        let at : f ≡ t = omega arith in
-        let none : c ≡ 0 = omega arith in
-        drop_of_length-le (take (s + n) (take t l)) {i = s} (omega (arith, length-take (s + n) (take t l), length-take t l))
-        ∙ sym (slice_empty t l)
-        ∙ ap₂ (λ (i j : ℕ). slice i j l) (sym at) (omega arith)
-    go (no p) (yes all) =
-        let at : f ≡ s = omega arith in
-        let whole : c ≡ n = omega arith in
-        ap (drop s) (take-take (s + n) t l all) ∙ ap₂ (λ (i j : ℕ). slice i (i + j) l) (sym at) (sym whole)
-    go (no p) (no q) =
-        let at : f ≡ s = omega arith in
-        let end : t ≡ s + c = omega arith in
-        ap (drop s) (take_all (s + n) (take t l) (omega (arith, length-take t l)))
-        ∙ ap₂ (λ (i j : ℕ). slice i j l) (sym at) (omega arith)
 
 pub part_of_rest : (a s n : ℕ) (l : List ℕ) → slice s (s + n) (drop a l) ≡ slice (a + s) (a + s + n) l
 part_of_rest a s n l = drop-take s n (drop a l) ∙ ap (take n) (drop-drop s a l) ∙ sym (drop-take (a + s) n l)

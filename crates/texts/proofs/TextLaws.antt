@@ -9,7 +9,7 @@ use borrow.Rule.Slice.PartMut.{put_mid}
 use lib.ListN.{length, take, drop, length-append}
 use lib.Seq.{slice, drop-drop, length-take-le, take_at}
 use Rattle.std.specs.List.{copy_within}
-use Rattle.std.specs.Prelude.{min, Some, None}
+use Rattle.std.specs.Prelude.{Some, None}
 use Rattle.std.proofs.lemmas.Slice.{drop-append-drop}
 use Rattle.packed.specs.declared.layout.Header.{Header}
 use Rattle.packed.specs.Layout.{text_at, size_of}
@@ -20,7 +20,7 @@ use Rattle.texts.specs.declared.Span.{Span}
 use Rattle.texts.specs.declared.Sources.{Sources}
 use Rattle.texts.specs.Text.{bytes_of, Spans, first_part, image_part, pool_text, Sourced}
 use Rattle.std.proofs.lemmas.List.{drop-take}
-use Rattle.texts.proofs.Parts.{length_part, first_part_is, part_of_rest, part_of_both}
+use Rattle.texts.proofs.Parts.{length_part, part_of_rest, part_of_both}
 
 -- ---- a text put where there is room for it
 
@@ -40,11 +40,6 @@ module _ (bytes : List ℕ) (at : ℕ) (text : List ℕ) where
       ∙ sym (put_is k e h)
 
 -- ---- where a part stands
-
-pub spans : (total start len from count : ℕ) → from ≡ min start total → count ≡ min len (total - from)
-    → Spans total len (first_part total start len) (record { from = from; count = count })
-spans total start len from count e g =
-    record { within = omega arith; short = omega arith; is = λ l. first_part_is total start len from count l e g }
 
 pub span_in_image : (h : Header) (start len : ℕ) (r : Span) → Spans h.text len (first_part h.text start len) r
     → Spans (size_of h) len (image_part h start len) (record { from = text_at h + r.from; count = r.count })
