@@ -1,18 +1,15 @@
--- The pieces of a text, and of what stands before the values within a value. Assumes nothing.
+-- The pieces of a text. Assumes nothing.
 use mathlib.Core.Path.{◌≡◌, refl, sym, ap, ap₂, ◌∙◌, subst}
-use mathlib.Core.Bool.{Bool, true, false}
+use mathlib.Core.Bool.{Bool}
 use mathlib.Core.List.{List, [], ◌∷◌, ◌++◌, append-nil}
 use Prim.Native.Nat.{ℕ, ◌+◌, ◌≤◌}
 use native.Mathlib.Omega.{arith}
 use lib.ListN.{length, length-append}
 use lib.Seq.{slice}
-use mir.Val.{bool_byte}
 use Rattle.packed.specs.declared.layout.Header.{Header}
 use Rattle.packed.specs.Layout.{size_of}
-use Rattle.rules.specs.Store.{Store, image_text, text_of, start_of, length_of, part_text}
-use Rattle.rules.specs.declared.Value.{Value}
-use Rattle.rules.specs.declared.Value.TheVariants.{Text, Bytes}
-use Rattle.rules.specs.Output.{Piece, put, byte_pieces, length_and_bytes, bool_bit}
+use Rattle.rules.specs.Store.{image_text, text_of, start_of, length_of, part_text}
+use Rattle.rules.specs.Output.{Piece, put, byte_pieces, length_and_bytes}
 use Rattle.stores.specs.Stores.{store_of, text_of as text_in}
 use Rattle.texts.specs.declared.Sources.{Sources}
 use Rattle.texts.proofs.Parts.{length_part}
@@ -21,7 +18,6 @@ use Rattle.std.specs.Prelude.{Result}
 use Rattle.pouring.specs.declared.Spot.{Spot}
 use Rattle.pouring.specs.declared.NoPlace.{NoPlace}
 use Rattle.pouring.specs.Pouring.{Puts}
-use Rattle.output.specs.Writing.{head_pieces}
 use Rattle.stores.specs.declared.run.Run.{Run}
 
 pieces_append : (xs ys : List ℕ) → byte_pieces (xs ++ ys) ≡ byte_pieces xs ++ byte_pieces ys
@@ -48,9 +44,10 @@ text_puts image h bytes {made} {start} {len} {p} {from} {xs} {ys} {writing} {out
     puts
 
 -- the text of a value, and of a key
-pub pool_text_lem : (image : List ℕ) (h : Header) (run : Run) (words bytes : List ℕ) (start len : ℕ) → pool_text image h (text_in run) bytes start len ≡ text_of image h (store_of run words bytes) start len
+pub text_is : (image : List ℕ) (h : Header) (run : Run) (words bytes : List ℕ) (start len : ℕ) {writing : Bool} {p kind : ℕ} {out out₁ : List ℕ} {r : Result Spot NoPlace}
+    → Puts writing p (put 4 kind ∷ length_and_bytes (pool_text image h (text_in run) bytes start len)) out out₁ r → Puts writing p (put 4 kind ∷ length_and_bytes (text_of image h (store_of run words bytes) start len)) out out₁ r
 unfolding pool_text text_of store_of
-pool_text_lem image h run words bytes start len = refl
+text_is image h run words bytes start len puts = puts
 
 pub pool_key : (image : List ℕ) (h : Header) (bytes : List ℕ) (key : ℕ) → pool_text image h 0 bytes (start_of key) (length_of key) ≡ part_text image h key
 unfolding pool_text part_text
@@ -62,28 +59,3 @@ pub key_puts : (image : List ℕ) (h : Header) (bytes : List ℕ) {writing : Boo
 key_puts image h bytes {writing} {p} {start} {len} key {out} {out₁} {r} s l puts =
     let same : pool_text image h 0 bytes start len ≡ part_text image h key = ap₂ (pool_text image h 0 bytes) s l ∙ pool_key image h bytes key in
     subst (λ (text : List ℕ). Puts writing p (length_and_bytes text) out out₁ r) same puts
-
--- a bool's bit
-pub bool_bit_lem : (b : Bool) → bool_byte b ≡ bool_bit b
-bool_bit_lem true = refl
-bool_bit_lem false = refl
-
--- a number told otherwise
-pub number_puts : {writing : Bool} {p kind width x y : ℕ} {out out₁ : List ℕ} {r : Result Spot NoPlace} → x ≡ y → Puts writing p (put 4 kind ∷ put width x ∷ []) out out₁ r → Puts writing p (put 4 kind ∷ put width y ∷ []) out out₁ r
-number_puts {writing} {p} {kind} {width} {x} {y} {out} {out₁} {r} e puts = subst (λ (z : ℕ). Puts writing p (put 4 kind ∷ put width z ∷ []) out out₁ r) e puts
-
--- the pieces of what a value is known to be
-pub head_puts : (image : List ℕ) (h : Header) (σ : Store) {writing : Bool} {p : ℕ} (v u : Value) {out out₁ : List ℕ} {r : Result Spot NoPlace} → v ≡ u → Puts writing p (head_pieces image h σ u) out out₁ r
-    → Puts writing p (head_pieces image h σ v) out out₁ r
-head_puts image h σ {writing} {p} v u {out} {out₁} {r} e puts = subst (λ (w : Value). Puts writing p (head_pieces image h σ w) out out₁ r) (sym e) puts
-
-module _ (image : List ℕ) (h : Header) (run : Run) (words bytes : List ℕ) {writing : Bool} {p : ℕ} (v : Value) {start len : ℕ} {out out₁ : List ℕ} {r : Result Spot NoPlace} where
-  pub text_head : v ≡ Text start len → Puts writing p (put 4 6 ∷ length_and_bytes (pool_text image h (text_in run) bytes start len)) out out₁ r → Puts writing p (head_pieces image h (store_of run words bytes) v) out out₁ r
-  text_head e puts =
-      head_puts image h (store_of run words bytes) v (Text start len) e
-      (subst (λ (text : List ℕ). Puts writing p (put 4 6 ∷ length_and_bytes text) out out₁ r) (pool_text_lem image h run words bytes start len) puts)
-
-  pub bytes_head : v ≡ Bytes start len → Puts writing p (put 4 7 ∷ length_and_bytes (pool_text image h (text_in run) bytes start len)) out out₁ r → Puts writing p (head_pieces image h (store_of run words bytes) v) out out₁ r
-  bytes_head e puts =
-      head_puts image h (store_of run words bytes) v (Bytes start len) e
-      (subst (λ (text : List ℕ). Puts writing p (put 4 7 ∷ length_and_bytes text) out out₁ r) (pool_text_lem image h run words bytes start len) puts)

@@ -5,6 +5,7 @@
 ghost use Rattle.std.specs.Prelude.{◌≡◌, [], ◌∷◌, ◌+◌, ◌*◌, ◌/◌, ◌^◌, ◌≤◌, ◌<◌, length};
 ghost use Rattle.boxes.specs.Cells.{CellAt};
 ghost use Rattle.rules.specs.Output.{length_and_bytes, put as piece};
+ghost use Rattle.rules.specs.Store.{text_of};
 ghost use Rattle.texts.specs.Text.{pool_text};
 ghost use Rattle.stores.specs.Lent.{seen};
 ghost use Rattle.pouring.specs.Pouring.{IsPlace, Puts, bits_before};
@@ -60,8 +61,7 @@ fn write_text(
 // Text or bytes with their kind.
 fn write_string(
     image: &Image,
-    bytes: &[u8],
-    made: usize,
+    stores: &Stores,
     kind: u64,
     start: u32,
     len: u16,
@@ -69,11 +69,12 @@ fn write_string(
     writing: bool,
     spot: Spot,
 ) -> Result<Spot, NoPlace>
-    requires { (made ≤ length bytes.now) × IsPlace spot out.old }
-    ensures { Puts writing (bits_before spot) (piece 4 kind ∷ length_and_bytes (pool_text image.now.bytes.now image.now.header made bytes.now start len)) out.old out.new result }
+    requires { IsPlace spot out.old }
+    ensures { Puts writing (bits_before spot) (piece 4 kind ∷ length_and_bytes (text_of image.now.bytes.now image.now.header (seen stores.now) start len)) out.old out.new result }
 {
     let spot = put(out, writing, spot, 4, kind)?;
-    write_text(image, bytes, made, start, len, out, writing, spot)
+    let made = stores.run.text as usize;
+    write_text(image, stores.bytes, made, start, len, out, writing, spot)
 }
 
 // What stands before the values within a value: all of it where it holds none.
@@ -88,7 +89,6 @@ fn write_head(
     requires { IsPlace spot out.old }
     ensures { Puts writing (bits_before spot) (head_pieces image.now.bytes.now image.now.header (seen stores.now) v) out.old out.new result }
 {
-    let made = stores.run.text as usize;
     match v {
         Value::Unit => put(out, writing, spot, 4, 0),
         Value::Bool(b) => write_number(out, writing, spot, 1, 1, u64::from(b)),
@@ -96,8 +96,8 @@ fn write_head(
         Value::Signed(x) => write_number(out, writing, spot, 3, 64, int_to_word(x)),
         Value::Float(x) => write_number(out, writing, spot, 4, 64, float_to_word(x)),
         Value::Char(c) => write_number(out, writing, spot, 5, 21, c as u64),
-        Value::Text(s, l) => write_string(image, stores.bytes, made, 6, s, l, out, writing, spot),
-        Value::Bytes(s, l) => write_string(image, stores.bytes, made, 7, s, l, out, writing, spot),
+        Value::Text(s, l) => write_string(image, stores, 6, s, l, out, writing, spot),
+        Value::Bytes(s, l) => write_string(image, stores, 7, s, l, out, writing, spot),
         Value::Vec(c) => write_number(out, writing, spot, 8, 12, count_in(stores, c as usize)),
         Value::Tuple(c) => write_number(out, writing, spot, 9, 12, count_in(stores, c as usize)),
         Value::Object(c) => write_number(out, writing, spot, 10, 12, count_entries(stores, c)),

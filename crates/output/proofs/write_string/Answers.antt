@@ -1,7 +1,9 @@
 -- A kind, and the text.
+use Rattle.std.proofs.Common.{arith}
 use Rattle.std.proofs.lemmas.Result.{err_from_is_err_and}
 use Rattle.pouring.proofs.Places.{puts_then, puts_stop}
 use Rattle.output.proofs.Steps.{puts_place}
+use Rattle.output.proofs.Texts.{text_is}
 use Rattle.output.proofs.write_string.Goals as goal
 
 pub returns-in_err-spot : goal.returns-in_err-spot
@@ -10,7 +12,9 @@ returns-in_err-spot c =
     rw (p.1, p.2) (puts_stop _ c.in_err-spot.ensures)
 
 pub write_text-requires : goal.write_text-requires
-write_text-requires c = (c.requires.0, puts_place c.requires.1 c.in_ok-spot.ensures)
+write_text-requires c = (omega (arith, c.args.stores.now.fits.text, c.args.stores.now.room), puts_place c.requires c.in_ok-spot.ensures)
 
 pub returns : goal.returns
-returns c = puts_then c.in_ok-spot.ensures c.write_text.ensures
+returns c =
+    text_is c.args.image.now.bytes.now c.args.image.now.header c.args.stores.now.run c.args.stores.now.words.now c.args.stores.now.bytes.now c.args.start c.args.len
+    (puts_then c.in_ok-spot.ensures c.write_text.ensures)
