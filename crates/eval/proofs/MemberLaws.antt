@@ -19,36 +19,41 @@ use Rattle.rules.specs.Go.{Go}
 use Rattle.rules.proofs.Going.{stay}
 use Rattle.rules.proofs.Moves.{Enters, body, components, elements, members, fields, parameters, left, declaring, setting, assigning, breaking, no_kind, scope_opened, value_entered, bare_break, items_begun, branches_begun, loop_opened, not_const, instruction_entered, instruction_done, last_entered, no_last, arm_tested, arm_told_lem, default_entered, no_default, let_entered, condition_entered, turn_entered, turn_tested, condition_told_lem, right_entered}
 use Rattle.rules.proofs.ItemMoves.{text_skipped, item_entered, entry_entered}
-use Rattle.stores.specs.Stores.{store_of, takes_of, scope_of, floor_of, pending_of, Fits, Became, BecameRun}
+use Rattle.stores.specs.Stores.{store_of, takes_of, scope_of, floor_of, pending_of, Fits, Became}
 use Rattle.stores.proofs.PendingLaws.{length-pending}
 use Rattle.outcomes.specs.declared.Outcome.{Outcome}
 use Rattle.outcomes.specs.declared.Outcome.TheVariants.{Done, Broke, Refused, Spent}
 use Rattle.std.specs.declared.ops.ControlFlow.{ControlFlow}
 use Rattle.std.specs.declared.ops.ControlFlow.TheVariants.{Continue, Break}
-use Rattle.outcomes.specs.Post.{Ready, Post, Advance, After, AfterOn, AfterText, AfterWords, EveryAfterRun, Falls}
+use Rattle.outcomes.specs.Post.{Post, Advance, After, AfterOn, Falls}
 use Rattle.std.proofs.Common.{Ok}
 use Rattle.image.specs.Load.{load_of}
-use Rattle.entering.specs.Entering.{Entered, BodyEntered}
-use Rattle.outcomes.specs.Outcomes.{IsBreak}
-use Rattle.frames.specs.Loops.{told_by, told_of, PassOver}
-use Rattle.items.specs.Items.{ItemOver}
-use Rattle.frames.specs.Calls.{CallEntered}
+use Rattle.entering.specs.Entering.{HasEntered}
+use Rattle.outcomes.specs.Outcomes.{IsNode, IsBreak}
+use Rattle.frames.specs.Loops.{told_by, told_of, PassGoes}
+use Rattle.items.specs.Items.{ItemEnds}
+use Rattle.frames.specs.Calls.{CallEnters}
 use Rattle.eval.proofs.Falling.{Past, works, gives, breaks as broke, not_more, came_less, entering_falls}
 use Rattle.outcomes.proofs.Ways.{NoValue, all_pass, post_then, advance_then, post_past, valued, of_out, post_after, advance_after, refused}
 use Rattle.operands.specs.Waiting.{Single, declares, sets, assigns, breaks, waiting, operand_of}
 use Rattle.items.specs.Gathering.{Gathers, built, called, templates, vecs, tuples, objects}
+use Rattle.stores.specs.declared.run.Run.{Run}
 
 -- on to a control with frames of its own; it goes on there
-abbrev pub Reached : List ℕ → Header → Ctl → List Frame → List ℕ → List ℕ → List ℕ → Ctl → List Frame → List ℕ → List ℕ → List ℕ → Type 0
+abbrev pub Reached : List ℕ → Header → Ctl → List Frame → Run → List ℕ → List ℕ → Ctl → List Frame → Run → List ℕ → List ℕ → Type 0
 Reached image h t₀ fs₀ run words bytes t fs run₁ words₁ bytes₁ = Advance image h t₀ fs₀ t fs run words bytes run₁ words₁ bytes₁ (Continue tt)
+
+-- what becomes of an outcome, whatever the image
+abbrev EveryAfter : List Frame → Outcome → Run → List ℕ → List ℕ → Run → List ℕ → List ℕ → Outcome → Type 0
+EveryAfter fs one run words bytes run₁ words₁ bytes₁ r = (image : List ℕ) (h : Header) → After image h fs one run words bytes run₁ words₁ bytes₁ r
 
 -- ---- ways put together
 
 module _ {image : List ℕ} {h : Header} where
-  pub here : {t : Ctl} {fs : List Frame} {run words bytes : List ℕ} → Fits run words → Reached image h t fs run words bytes t fs run words bytes
+  pub here : {t : Ctl} {fs : List Frame} {run : Run} {words bytes : List ℕ} → Fits run words → Reached image h t fs run words bytes t fs run words bytes
   here fits = record { ways = record { path = λ K. stay }; fits = fits; room = refl }
 
-  module _ {t₀ : Ctl} {fs₀ : List Frame} {run words bytes : List ℕ} where
+  module _ {t₀ : Ctl} {fs₀ : List Frame} {run : Run} {words bytes : List ℕ} where
     -- one transition that takes nothing
     pub moves : (t : Ctl) (fs : List Frame) → Fits run words
         → ((K : List Frame) → Go image h (takes_of run) (going t₀ (fs₀ ++ K) (store_of run words bytes)) (takes_of run) (going t (fs ++ K) (store_of run words bytes)))
@@ -56,12 +61,12 @@ module _ {image : List ℕ} {h : Header} where
     moves t fs fits p = record { ways = record { path = p }; fits = fits; room = refl }
 
     -- to what a function made of the store
-    pub became : (t : Ctl) (fs : List Frame) {f : Store → Store} {run₁ words₁ bytes₁ : List ℕ}
+    pub became : (t : Ctl) (fs : List Frame) {f : Store → Store} {run₁ : Run} {words₁ bytes₁ : List ℕ}
         → ((K : List Frame) → Go image h (takes_of run) (going t₀ (fs₀ ++ K) (store_of run words bytes)) (takes_of run) (going t (fs ++ K) (f (store_of run words bytes))))
         → Became f run words bytes run₁ words₁ bytes₁ → Reached image h t₀ fs₀ run words bytes t fs run₁ words₁ bytes₁
-    became t fs p b = record { ways = record { path = λ K. rw (b.kept.takes, b.store) (p K) }; fits = b.kept.fits; room = b.kept.room }
+    became t fs p b = record { ways = record { path = λ K. rw (b.store, b.kept.takes) (p K) }; fits = b.kept.fits; room = b.kept.room }
 
-    module _ {run₁ words₁ bytes₁ run₂ words₂ bytes₂ : List ℕ} where
+    module _ {run₁ : Run} {words₁ bytes₁ : List ℕ} {run₂ : Run} {words₂ bytes₂ : List ℕ} where
       pub on_then : {t₁ t : Ctl} {fs₁ fs : List Frame} {r : ControlFlow Outcome (Unit {0})} → Reached image h t₀ fs₀ run words bytes t₁ fs₁ run₁ words₁ bytes₁
           → Advance image h t₁ fs₁ t fs run₁ words₁ bytes₁ run₂ words₂ bytes₂ r → Advance image h t₀ fs₀ t fs run words bytes run₂ words₂ bytes₂ r
       on_then p q = advance_then p.ways p.room q
@@ -78,7 +83,7 @@ module _ {image : List ℕ} {h : Header} where
           → Post image h t₁ [] run₁ words₁ bytes₁ run₂ words₂ bytes₂ one → Reached image h t₀ fs₀ run words bytes (ret v) fs run₂ words₂ bytes₂
       on_value e p q = record { ways = valued e p.ways q; fits = q.fits; room = q.room ∙ p.room }
 
-      module _ {run₃ words₃ bytes₃ : List ℕ} {t₁ : Ctl} {fs : List Frame} where
+      module _ {run₃ : Run} {words₃ bytes₃ : List ℕ} {t₁ : Ctl} {fs : List Frame} where
         pub on_after : (one : Outcome) {r : Outcome} → Reached image h t₀ fs₀ run words bytes t₁ fs run₁ words₁ bytes₁
             → Post image h t₁ [] run₁ words₁ bytes₁ run₂ words₂ bytes₂ one → After image h fs one run₂ words₂ bytes₂ run₃ words₃ bytes₃ r
             → Post image h t₀ fs₀ run words bytes run₃ words₃ bytes₃ r
@@ -89,7 +94,7 @@ module _ {image : List ℕ} {h : Header} where
             → Advance image h t₀ fs₀ t [] run words bytes run₃ words₃ bytes₃ r
         on_after_on one p q a = advance_after one p.ways p.room q a
 
-    module _ {run₁ words₁ bytes₁ : List ℕ} where
+    module _ {run₁ : Run} {words₁ bytes₁ : List ℕ} where
       -- and one transition more
       pub via : {t₁ : Ctl} {fs₁ : List Frame} (t : Ctl) (fs : List Frame) → Reached image h t₀ fs₀ run words bytes t₁ fs₁ run₁ words₁ bytes₁
           → ((K : List Frame) → Go image h (takes_of run₁) (going t₁ (fs₁ ++ K) (store_of run₁ words₁ bytes₁)) (takes_of run₁) (going t (fs ++ K) (store_of run₁ words₁ bytes₁)))
@@ -119,37 +124,31 @@ module _ {image : List ℕ} {h : Header} where
 module _ {image : List ℕ} {h : Header} where
   -- ---- entering
 
-  module _ {t₀ : Ctl} {n d : ℕ} {run run₁ words : List ℕ} {x : ControlFlow Outcome (Unit {0})} (en : Entered image h t₀ n d run run₁ x) (fits : Fits run words) where
-    pub entered_post : {bytes run₂ words₂ bytes₂ : List ℕ} {r : Outcome} → x ≡ Continue tt
-        → Post image h (work n d) [] run₁ words bytes run₂ words₂ bytes₂ r → Post image h t₀ [] run words bytes run₂ words₂ bytes₂ r
-    entered_post {bytes} e q = on_post (on_is (en.advance words bytes fits) e) q
+  module _ {t₀ : Ctl} {n d : ℕ} {run : Run} {words bytes : List ℕ} {run₁ : Run} {words₁ bytes₁ : List ℕ} {x : ControlFlow Outcome (Unit {0})}
+      (en : HasEntered image h t₀ n d run words bytes run₁ words₁ bytes₁ x) where
+    pub entered_post : {run₂ : Run} {words₂ bytes₂ : List ℕ} {r : Outcome} → x ≡ Continue tt
+        → Post image h (work n d) [] run₁ words₁ bytes₁ run₂ words₂ bytes₂ r → Post image h t₀ [] run words bytes run₂ words₂ bytes₂ r
+    entered_post e q = on_post (on_is en.advance e) q
 
-    pub entered_out : {bytes : List ℕ} {r : Outcome} → x ≡ Break r → Post image h t₀ [] run words bytes run₁ words bytes r
-    entered_out {bytes} e = out_is (en.advance words bytes fits) e
-
-    pub entered_fits : Fits run₁ words
-    entered_fits = (en.advance words [] fits).fits
+    pub entered_out : {r : Outcome} → x ≡ Break r → Post image h t₀ [] run words bytes run₁ words₁ bytes₁ r
+    entered_out e = out_is en.advance e
 
     pub entered_less : Enters t₀ n d → x ≡ Continue tt → takes_of run₁ < takes_of run
-    entered_less enters e = entered_falls enters works (on_is (en.advance words [] fits) e)
-
-  pub body_entering : {n m d : ℕ} {run words bytes run₁ : List ℕ} {x : ControlFlow Outcome (Unit {0})} → Ready image h n run words bytes → BodyEntered m d run run₁ x
-      → Entered image h (enter_body m d) m d run run₁ x
-  body_entering r b = b image h
+    entered_less enters e = entered_falls enters works (on_is en.advance e)
 
   -- ---- scopes
 
-  module _ {n d s : ℕ} {run words bytes run₁ : List ℕ} where
-    pub scope_begun : {i : ℕ} → (node_at image h n).kind ≡ 1 → i ≡ (node_at image h n).a → s ≡ scope_of run → Fits run words → BecameRun opened run run₁
-        → Reached image h (work n d) [] run words bytes (instructions n i d s) [] run₁ words bytes
+  module _ {n d s : ℕ} {run : Run} {words bytes : List ℕ} {run₁ : Run} {words₁ bytes₁ : List ℕ} where
+    pub scope_begun : {i : ℕ} → (node_at image h n).kind ≡ 1 → i ≡ (node_at image h n).a → s ≡ scope_of run → Became opened run words bytes run₁ words₁ bytes₁
+        → Reached image h (work n d) [] run words bytes (instructions n i d s) [] run₁ words₁ bytes₁
     unfolding store_of kind_of kinds
-    scope_begun {i} k ie e fits b = became (instructions n i d s) [] (λ K. rw (ie, e) (scope_opened (ap kind_of k))) (b words bytes fits)
+    scope_begun {i} k ie e b = became (instructions n i d s) [] (λ K. rw (ie, e) (scope_opened (ap kind_of k))) b
 
-    pub scope_unit : (node_at image h n).b ≡ 0 → Fits run words → BecameRun (closed s) run run₁
-        → Post image h (instructions n 0 d s) [] run words bytes run₁ words bytes (Done VUnit)
-    scope_unit unit fits b = value_is (became (ret VUnit) [] (λ K. no_last refl unit) (b words bytes fits))
+    pub scope_unit : (node_at image h n).b ≡ 0 → Became (closed s) run words bytes run₁ words₁ bytes₁
+        → Post image h (instructions n 0 d s) [] run words bytes run₁ words₁ bytes₁ (Done VUnit)
+    scope_unit unit b = value_is (became (ret VUnit) [] (λ K. no_last refl unit) b)
 
-  module _ {t₀ : Ctl} {fs₀ : List Frame} {run words bytes run₁ words₁ bytes₁ run₂ words₂ bytes₂ : List ℕ} {n i d s : ℕ} {one : Outcome}
+  module _ {t₀ : Ctl} {fs₀ : List Frame} {run : Run} {words bytes : List ℕ} {run₁ : Run} {words₁ bytes₁ : List ℕ} {run₂ : Run} {words₂ bytes₂ : List ℕ} {n i d s : ℕ} {one : Outcome}
       (way : Reached image h t₀ fs₀ run words bytes (instructions n i d s) [] run₁ words₁ bytes₁) (more : i ≡ 0 → ⊥)
       (q : Post image h (enter i (d + 1)) [] run₁ words₁ bytes₁ run₂ words₂ bytes₂ one) where
     abbrev frame : List Frame
@@ -163,20 +162,20 @@ module _ {image : List ℕ} {h : Header} where
     instruction_next e =
         via (instructions n (onward image h i) d s) [] (on_value e (via (enter i (d + 1)) frame way (λ K. instruction_entered more)) q) (λ K. instruction_done)
 
-  module _ {n d s : ℕ} {run words bytes run₁ words₁ bytes₁ run₂ : List ℕ} where
+  module _ {n d s : ℕ} {run : Run} {words bytes : List ℕ} {run₁ : Run} {words₁ bytes₁ : List ℕ} {run₂ : Run} {words₂ bytes₂ : List ℕ} where
     pub scope_last : (m : ℕ) (one : Outcome) {r : Outcome} → m ≡ (node_at image h n).b → (m ≡ 0 → ⊥) → Fits run words
         → Post image h (enter m (d + 1)) [] run words bytes run₁ words₁ bytes₁ one
-        → EveryAfterRun (end_of s ∷ []) one run₁ run₂ r → Post image h (instructions n 0 d s) [] run words bytes run₂ words₁ bytes₁ r
+        → EveryAfter (end_of s ∷ []) one run₁ words₁ bytes₁ run₂ words₂ bytes₂ r → Post image h (instructions n 0 d s) [] run words bytes run₂ words₂ bytes₂ r
     scope_last m one e last fits q a =
-        on_after one (moves (enter m (d + 1)) (end_of s ∷ []) fits (λ K. rw e (last_entered refl (λ z. last (e ∙ z))))) q (a image h words₁ bytes₁ q.fits)
+        on_after one (moves (enter m (d + 1)) (end_of s ∷ []) fits (λ K. rw e (last_entered refl (λ z. last (e ∙ z))))) q (a image h)
 
     pub taken_done : (one : Outcome) {r : Outcome} → Fits run words → Post image h (enter_body n d) [] run words bytes run₁ words₁ bytes₁ one
-        → EveryAfterRun (end_of s ∷ []) one run₁ run₂ r → Post image h (enter_body n d) (end_of s ∷ []) run words bytes run₂ words₁ bytes₁ r
-    taken_done one fits q a = on_after one (here fits) q (a image h words₁ bytes₁ q.fits)
+        → EveryAfter (end_of s ∷ []) one run₁ words₁ bytes₁ run₂ words₂ bytes₂ r → Post image h (enter_body n d) (end_of s ∷ []) run words bytes run₂ words₂ bytes₂ r
+    taken_done one fits q a = on_after one (here fits) q (a image h)
 
   -- ---- binary
 
-  module _ {n d m : ℕ} {run words bytes run₁ words₁ bytes₁ : List ℕ} {one : Outcome} (k : (node_at image h n).kind ≡ 2) (e : m ≡ (node_at image h n).a)
+  module _ {n d m : ℕ} {run : Run} {words bytes : List ℕ} {run₁ : Run} {words₁ bytes₁ : List ℕ} {one : Outcome} (k : (node_at image h n).kind ≡ 2) (e : m ≡ (node_at image h n).a)
       (fits : Fits run words) (q : Post image h (enter m (d + 1)) [] run words bytes run₁ words₁ bytes₁ one) where
     left_way : Reached image h (work n d) [] run words bytes (enter m (d + 1)) (left_of n d ∷ []) run words bytes
     unfolding kind_of kinds
@@ -185,15 +184,15 @@ module _ {image : List ℕ} {h : Header} where
     pub left_past : NoValue one → Post image h (work n d) [] run words bytes run₁ words₁ bytes₁ one
     left_past no_value = on_past (left_of n d ∷ []) refl no_value left_way q
 
-    pub right_done : {m₂ : ℕ} {run₂ words₂ bytes₂ run₃ bytes₃ : List ℕ} {u : Value} (two : Outcome) {r : Outcome} → one ≡ Done u → m₂ ≡ (node_at image h n).b
-        → Post image h (enter m₂ (d + 1)) [] run₁ words₁ bytes₁ run₂ words₂ bytes₂ two → AfterText image h (right_of n u ∷ []) two run₂ bytes₂ run₃ bytes₃ r
-        → Post image h (work n d) [] run words bytes run₃ words₂ bytes₃ r
+    pub right_done : {m₂ : ℕ} {run₂ : Run} {words₂ bytes₂ : List ℕ} {run₃ : Run} {words₃ bytes₃ : List ℕ} {u : Value} (two : Outcome) {r : Outcome} → one ≡ Done u → m₂ ≡ (node_at image h n).b
+        → Post image h (enter m₂ (d + 1)) [] run₁ words₁ bytes₁ run₂ words₂ bytes₂ two → After image h (right_of n u ∷ []) two run₂ words₂ bytes₂ run₃ words₃ bytes₃ r
+        → Post image h (work n d) [] run words bytes run₃ words₃ bytes₃ r
     right_done {m₂} {u = u} two done e₂ q₂ a =
-        on_after two (via (enter m₂ (d + 1)) (right_of n u ∷ []) (on_value done left_way q) (λ K. rw e₂ right_entered)) q₂ (a _ q₂.fits)
+        on_after two (via (enter m₂ (d + 1)) (right_of n u ∷ []) (on_value done left_way q) (λ K. rw e₂ right_entered)) q₂ a
 
   -- ---- one operand
 
-  module _ {n d : ℕ} {run words bytes : List ℕ} (fits : Fits run words) where
+  module _ {n d : ℕ} {run : Run} {words bytes : List ℕ} (fits : Fits run words) where
     operand_way : {k : ℕ} (m : ℕ) → (node_at image h n).kind ≡ k → Single k → m ≡ operand_of (kind_of k) (node_at image h n) → (m ≡ 0 → ⊥)
         → Reached image h (work n d) [] run words bytes (enter m (d + 1)) (waiting (kind_of k) n) run words bytes
     unfolding kind_of kinds
@@ -203,15 +202,15 @@ module _ {image : List ℕ} {h : Header} where
     operand_way m k breaks e nonzero =
         moves (enter m (d + 1)) (break_of n ∷ []) fits (λ K. rw e (value_entered (breaking (λ z. nonzero (e ∙ z))) (ap kind_of k)))
 
-    pub operand_done : {m : ℕ} {run₁ words₁ bytes₁ run₂ words₂ : List ℕ} (one : Outcome) {r : Outcome} → Single (node_at image h n).kind
+    pub operand_done : {m : ℕ} {run₁ : Run} {words₁ bytes₁ : List ℕ} {run₂ : Run} {words₂ bytes₂ : List ℕ} (one : Outcome) {r : Outcome} → Single (node_at image h n).kind
         → m ≡ operand_of (kind_of (node_at image h n).kind) (node_at image h n) → (m ≡ 0 → ⊥) → Post image h (enter m (d + 1)) [] run words bytes run₁ words₁ bytes₁ one
-        → AfterWords image h (waiting (kind_of (node_at image h n).kind) n) one run₁ words₁ run₂ words₂ r
-        → Post image h (work n d) [] run words bytes run₂ words₂ bytes₁ r
-    operand_done {m} {bytes₁ = bytes₁} one single e nonzero q a = on_after one (operand_way m refl single e nonzero) q (a bytes₁)
+        → After image h (waiting (kind_of (node_at image h n).kind) n) one run₁ words₁ bytes₁ run₂ words₂ bytes₂ r
+        → Post image h (work n d) [] run words bytes run₂ words₂ bytes₂ r
+    operand_done {m} one single e nonzero q a = on_after one (operand_way m refl single e nonzero) q a
 
   -- ---- items: vec, tuple, object, template and call
 
-  module _ {n d p : ℕ} {run words bytes : List ℕ} (fits : Fits run words) (e : p ≡ pending_of run) where
+  module _ {n d p : ℕ} {run : Run} {words bytes : List ℕ} (fits : Fits run words) (e : p ≡ pending_of run) where
     items_by : {k : ℕ} → (node_at image h n).kind ≡ k → Gathers k → Reached image h (work n d) [] run words bytes (items n (node_at image h n).a d p) [] run words bytes
     unfolding kind_of kinds
     items_by k (built templates) =
@@ -228,11 +227,11 @@ module _ {image : List ℕ} {h : Header} where
     pub items_way : Gathers (node_at image h n).kind → Reached image h (work n d) [] run words bytes (items n (node_at image h n).a d p) [] run words bytes
     items_way g = items_by refl g
 
-  pub items_start : {n i d p : ℕ} {run words bytes : List ℕ} → Fits run words → i ≡ (node_at image h n).a
+  pub items_start : {n i d p : ℕ} {run : Run} {words bytes : List ℕ} → Fits run words → i ≡ (node_at image h n).a
       → Reached image h (items n (node_at image h n).a d p) [] run words bytes (items n i d p) [] run words bytes
   items_start fits e = rw e (here fits)
 
-  module _ {n i d p : ℕ} {run words bytes : List ℕ} (more : i ≡ 0 → ⊥) (fits : Fits run words) where
+  module _ {n i d p : ℕ} {run : Run} {words bytes : List ℕ} (more : i ≡ 0 → ⊥) (fits : Fits run words) where
     pub item_skipped : (node_at image h i).kind ≡ 17 → Reached image h (items n i d p) [] run words bytes (items n (onward image h i) d p) [] run words bytes
     item_skipped k = moves (items n (onward image h i) d p) [] fits (λ K. text_skipped more k)
 
@@ -248,35 +247,36 @@ module _ {image : List ℕ} {h : Header} where
             let itself : m ≡ i = e ∙ rw (ne_eqb (node_at image h n).kind 15 other) refl in
             moves (enter m (d + 1)) (item_of n i d p ∷ []) fits (λ K. rw itself (item_entered more k other))
 
-    pub item_done : {m : ℕ} {run₁ words₁ bytes₁ run₂ words₂ : List ℕ} (one : Outcome) {r : ControlFlow Outcome (Unit {0})} → ((node_at image h i).kind ≡ 17 → ⊥) → m ≡ item_node image h n i
-        → Post image h (enter m (d + 1)) [] run words bytes run₁ words₁ bytes₁ one → ItemOver image h n i p one run₁ words₁ run₂ words₂ r
-        → Advance image h (items n i d p) [] (items n (onward image h i) d p) [] run words bytes run₂ words₂ bytes₁ r
-    item_done {m} {bytes₁ = bytes₁} one k e q a = on_after_on one (item_way m k e) q (a d bytes₁)
+    pub item_done : {m : ℕ} {run₁ : Run} {words₁ bytes₁ : List ℕ} {run₂ : Run} {words₂ bytes₂ : List ℕ} (one : Outcome) {r : ControlFlow Outcome (Unit {0})} → ((node_at image h i).kind ≡ 17 → ⊥) → m ≡ item_node image h n i
+        → Post image h (enter m (d + 1)) [] run words bytes run₁ words₁ bytes₁ one → ItemEnds image h n i p one run₁ words₁ bytes₁ run₂ words₂ bytes₂ r
+        → Advance image h (items n i d p) [] (items n (onward image h i) d p) [] run words bytes run₂ words₂ bytes₂ r
+    item_done {m} one k e q a = on_after_on one (item_way m k e) q (a d)
 
   -- ---- calls
 
-  module _ {n d p : ℕ} {run words bytes run₁ words₁ : List ℕ} {x : ControlFlow Outcome (Unit {0})} (en : CallEntered image h n p run words run₁ words₁ x) where
-    pub call_refused : {r : Outcome} → x ≡ Break r → Post image h (items n 0 d p) [] run words bytes run₁ words₁ bytes r
-    call_refused e = out_is (en d bytes) e
+  module _ {n d p : ℕ} {run : Run} {words bytes : List ℕ} {run₁ : Run} {words₁ bytes₁ : List ℕ} {x : ControlFlow Outcome (Unit {0})}
+      (en : CallEnters image h n p run words bytes run₁ words₁ bytes₁ x) where
+    pub call_refused : {r : Outcome} → x ≡ Break r → Post image h (items n 0 d p) [] run words bytes run₁ words₁ bytes₁ r
+    call_refused e = out_is (en d) e
 
-    pub call_done : {m s f : ℕ} {run₂ words₂ bytes₂ run₃ : List ℕ} (one : Outcome) {r : Outcome} → x ≡ Continue tt → m ≡ (function_at image (node_at image h n).tag).body
-        → s ≡ scope_of run → f ≡ floor_of run → Post image h (enter m (d + 1)) [] run₁ words₁ bytes run₂ words₂ bytes₂ one
-        → EveryAfterRun (call_of s f p ∷ []) one run₂ run₃ r → Post image h (items n 0 d p) [] run words bytes run₃ words₂ bytes₂ r
-    call_done {m} {s} {f} {words₂ = words₂} {bytes₂ = bytes₂} one e me se fe q a =
-        let way : Reached image h (items n 0 d p) [] run words bytes (enter m (d + 1)) (call_of s f p ∷ []) run₁ words₁ bytes = rw (me, se, fe) (on_is (en d bytes) e) in
-        on_after one way q (a image h words₂ bytes₂ q.fits)
+    pub call_done : {m s f : ℕ} {run₂ : Run} {words₂ bytes₂ : List ℕ} {run₃ : Run} {words₃ bytes₃ : List ℕ} (one : Outcome) {r : Outcome} → x ≡ Continue tt → m ≡ (function_at image (node_at image h n).tag).body
+        → s ≡ scope_of run → f ≡ floor_of run → Post image h (enter m (d + 1)) [] run₁ words₁ bytes₁ run₂ words₂ bytes₂ one
+        → EveryAfter (call_of s f p ∷ []) one run₂ words₂ bytes₂ run₃ words₃ bytes₃ r → Post image h (items n 0 d p) [] run words bytes run₃ words₃ bytes₃ r
+    call_done {m} {s} {f} one e me se fe q a =
+        let way : Reached image h (items n 0 d p) [] run words bytes (enter m (d + 1)) (call_of s f p ∷ []) run₁ words₁ bytes₁ = rw (me, se, fe) (on_is (en d) e) in
+        on_after one way q (a image h)
 
   -- ---- conditions
 
-  module _ {c d : ℕ} {run words bytes run₁ words₁ bytes₁ : List ℕ} (fits : Fits run words) where
+  module _ {c d : ℕ} {run : Run} {words bytes : List ℕ} {run₁ : Run} {words₁ bytes₁ : List ℕ} (fits : Fits run words) where
     pub condition_done : {r : Outcome} → ((node_at image h c).kind ≡ 20 → ⊥) → Post image h (enter c (d + 1)) [] run words bytes run₁ words₁ bytes₁ r
         → Post image h (test c d) [] run words bytes run₁ words₁ bytes₁ r
     condition_done k q = on_post (moves (enter c (d + 1)) [] fits (λ K. condition_entered k)) q
 
-    pub let_done : {m : ℕ} {run₂ words₂ : List ℕ} (one : Outcome) {r : Outcome} → (node_at image h c).kind ≡ 20 → m ≡ (node_at image h c).a
-        → Post image h (enter m (d + 1)) [] run words bytes run₁ words₁ bytes₁ one → AfterWords image h (let_of c ∷ []) one run₁ words₁ run₂ words₂ r
-        → Post image h (test c d) [] run words bytes run₂ words₂ bytes₁ r
-    let_done {m} one k e q a = on_after one (moves (enter m (d + 1)) (let_of c ∷ []) fits (λ K. rw e (let_entered k))) q (a bytes₁)
+    pub let_done : {m : ℕ} {run₂ : Run} {words₂ bytes₂ : List ℕ} (one : Outcome) {r : Outcome} → (node_at image h c).kind ≡ 20 → m ≡ (node_at image h c).a
+        → Post image h (enter m (d + 1)) [] run words bytes run₁ words₁ bytes₁ one → After image h (let_of c ∷ []) one run₁ words₁ bytes₁ run₂ words₂ bytes₂ r
+        → Post image h (test c d) [] run words bytes run₂ words₂ bytes₂ r
+    let_done {m} one k e q a = on_after one (moves (enter m (d + 1)) (let_of c ∷ []) fits (λ K. rw e (let_entered k))) q a
 
 -- ---- what a condition told
 
@@ -291,7 +291,7 @@ told_value c holds b (Broke x v) e k = cc
 told_value c holds b (Refused why place) e k = cc
 told_value c holds b (Spent place) e k = cc
 
-module _ {image : List ℕ} {h : Header} {t₀ : Ctl} {fs₀ : List Frame} {run words bytes run₁ words₁ bytes₁ run₂ words₂ bytes₂ : List ℕ} {c d : ℕ} where
+module _ {image : List ℕ} {h : Header} {t₀ : Ctl} {fs₀ : List Frame} {run : Run} {words bytes : List ℕ} {run₁ : Run} {words₁ bytes₁ : List ℕ} {run₂ : Run} {words₂ bytes₂ : List ℕ} {c d : ℕ} where
   -- one that is out: no bool, or no value
   told_out : (fs : List Frame) (one : Outcome) {r : Outcome} → all_pass fs ≡ true → told_of c one ≡ Break r
       → Reached image h t₀ fs₀ run words bytes (test c d) fs run₁ words₁ bytes₁ → Post image h (test c d) [] run₁ words₁ bytes₁ run₂ words₂ bytes₂ one
@@ -317,11 +317,12 @@ module _ {image : List ℕ} {h : Header} {t₀ : Ctl} {fs₀ : List Frame} {run 
 module _ {image : List ℕ} {h : Header} where
   -- ---- branches
 
-  module _ {n i d c s : ℕ} {run words bytes run₁ run₂ words₂ bytes₂ : List ℕ} (one : Outcome) (more : i ≡ 0 → ⊥) (ce : c ≡ (node_at image h i).a) (se : s ≡ scope_of run)
-      (fits : Fits run words) (b : BecameRun opened run run₁) (q : Post image h (test c d) [] run₁ words bytes run₂ words₂ bytes₂ one) where
-    arm_way : Reached image h (arms n i d) [] run words bytes (test c d) (arm_of n i d s ∷ []) run₁ words bytes
+  module _ {n i d c s : ℕ} {run : Run} {words bytes : List ℕ} {run₁ : Run} {words₁ bytes₁ : List ℕ} {run₂ : Run} {words₂ bytes₂ : List ℕ} (one : Outcome) (more : i ≡ 0 → ⊥)
+      (ce : c ≡ (node_at image h i).a) (se : s ≡ scope_of run) (b : Became opened run words bytes run₁ words₁ bytes₁)
+      (q : Post image h (test c d) [] run₁ words₁ bytes₁ run₂ words₂ bytes₂ one) where
+    arm_way : Reached image h (arms n i d) [] run words bytes (test c d) (arm_of n i d s ∷ []) run₁ words₁ bytes₁
     unfolding store_of
-    arm_way = became (test c d) (arm_of n i d s ∷ []) (λ K. rw (ce, se) (arm_tested more)) (b words bytes fits)
+    arm_way = became (test c d) (arm_of n i d s ∷ []) (λ K. rw (ce, se) (arm_tested more)) b
 
     pub arm_holds : {holds : Bool} → told_of c one ≡ Continue holds → holds ≡ true
         → Reached image h (arms n i d) [] run words bytes (enter_body (node_at image h i).b (d + 1)) (end_of s ∷ []) run₂ words₂ bytes₂
@@ -329,16 +330,16 @@ module _ {image : List ℕ} {h : Header} where
         let told = told_value c holds true one e k in
         via (enter_body (node_at image h i).b (d + 1)) (end_of s ∷ []) (on_value told.1 arm_way q) (λ K. arm_told_lem told.2)
 
-    pub arm_fails : {holds : Bool} {run₃ : List ℕ} → told_of c one ≡ Continue holds → holds ≡ false → BecameRun (closed s) run₂ run₃
-        → Reached image h (arms n i d) [] run words bytes (arms n (onward image h i) d) [] run₃ words₂ bytes₂
-    arm_fails {holds} {run₃} e k cl =
+    pub arm_fails : {holds : Bool} {run₃ : Run} {words₃ bytes₃ : List ℕ} → told_of c one ≡ Continue holds → holds ≡ false
+        → Became (closed s) run₂ words₂ bytes₂ run₃ words₃ bytes₃ → Reached image h (arms n i d) [] run words bytes (arms n (onward image h i) d) [] run₃ words₃ bytes₃
+    arm_fails {holds} e k cl =
         let told = told_value c holds false one e k in
-        on_then (on_value told.1 arm_way q) (became (arms n (onward image h i) d) [] (λ K. arm_told_lem told.2) (cl words₂ bytes₂ q.fits))
+        on_then (on_value told.1 arm_way q) (became (arms n (onward image h i) d) [] (λ K. arm_told_lem told.2) cl)
 
     pub arm_out : {r : Outcome} → told_of c one ≡ Break r → Post image h (arms n i d) [] run words bytes run₂ words₂ bytes₂ r
     arm_out e = told_out (arm_of n i d s ∷ []) one refl e arm_way q (λ v z K. rw ce (arm_told_lem z))
 
-  module _ {n d : ℕ} {run words bytes : List ℕ} (fits : Fits run words) where
+  module _ {n d : ℕ} {run : Run} {words bytes : List ℕ} (fits : Fits run words) where
     pub branches_way : {i : ℕ} → (node_at image h n).kind ≡ 10 → i ≡ (node_at image h n).a → Reached image h (work n d) [] run words bytes (arms n i d) [] run words bytes
     unfolding kind_of kinds
     branches_way {i} k e = moves (arms n i d) [] fits (λ K. rw e (branches_begun (ap kind_of k)))
@@ -346,27 +347,27 @@ module _ {image : List ℕ} {h : Header} where
     pub default_unit : (node_at image h n).b ≡ 0 → Post image h (arms n 0 d) [] run words bytes run words bytes (Done VUnit)
     default_unit unit = value_is (moves (ret VUnit) [] fits (λ K. no_default refl unit))
 
-    pub default_done : {m : ℕ} {run₁ words₁ bytes₁ : List ℕ} {r : Outcome} → m ≡ (node_at image h n).b → (m ≡ 0 → ⊥)
+    pub default_done : {m : ℕ} {run₁ : Run} {words₁ bytes₁ : List ℕ} {r : Outcome} → m ≡ (node_at image h n).b → (m ≡ 0 → ⊥)
         → Post image h (enter_body m (d + 1)) [] run words bytes run₁ words₁ bytes₁ r → Post image h (arms n 0 d) [] run words bytes run₁ words₁ bytes₁ r
     default_done {m} e default q = on_post (moves (enter_body m (d + 1)) [] fits (λ K. rw e (default_entered refl (λ z. default (e ∙ z))))) q
 
   -- ---- loops
 
-  module _ {n d s : ℕ} {run words bytes run₁ : List ℕ} (fits : Fits run words) where
-    pub loop_begun : (node_at image h n).kind ≡ 11 → s ≡ scope_of run → BecameRun opened run run₁
-        → Reached image h (work n d) [] run words bytes (turn n d s) [] run₁ words bytes
-    unfolding store_of kind_of kinds
-    loop_begun k e b = became (turn n d s) [] (λ K. rw e (loop_opened (ap kind_of k))) (b words bytes fits)
+  pub loop_begun : {n d s : ℕ} {run : Run} {words bytes : List ℕ} {run₁ : Run} {words₁ bytes₁ : List ℕ} → (node_at image h n).kind ≡ 11 → s ≡ scope_of run
+      → Became opened run words bytes run₁ words₁ bytes₁ → Reached image h (work n d) [] run words bytes (turn n d s) [] run₁ words₁ bytes₁
+  unfolding store_of kind_of kinds
+  loop_begun {n} {d} {s} k e b = became (turn n d s) [] (λ K. rw e (loop_opened (ap kind_of k))) b
 
-  pub turn_bare : {n d s : ℕ} {run words bytes : List ℕ} → Fits run words → (node_at image h n).a ≡ 0
+  pub turn_bare : {n d s : ℕ} {run : Run} {words bytes : List ℕ} → Fits run words → (node_at image h n).a ≡ 0
       → Reached image h (turn n d s) [] run words bytes (enter_body (node_at image h n).b (d + 1)) (body_of n d s (scope_of run) ∷ []) run words bytes
   unfolding store_of
   turn_bare {n} {d} {s} {run} fits bare = moves (enter_body (node_at image h n).b (d + 1)) (body_of n d s (scope_of run) ∷ []) fits (λ K. turn_entered bare)
 
-  module _ {n d c s : ℕ} {run words bytes run₁ run₂ words₂ bytes₂ : List ℕ} (one : Outcome) (ce : c ≡ (node_at image h n).a) (condition : c ≡ 0 → ⊥)
-      (fits : Fits run words) (b : BecameRun emptied run run₁) (q : Post image h (test c d) [] run₁ words bytes run₂ words₂ bytes₂ one) where
-    turn_way : Reached image h (turn n d s) [] run words bytes (test c d) (condition_of n d s ∷ []) run₁ words bytes
-    turn_way = became (test c d) (condition_of n d s ∷ []) (λ K. rw ce (turn_tested (λ z. condition (ce ∙ z)))) (b words bytes fits)
+  module _ {n d c s : ℕ} {run : Run} {words bytes : List ℕ} {run₁ : Run} {words₁ bytes₁ : List ℕ} {run₂ : Run} {words₂ bytes₂ : List ℕ} (one : Outcome)
+      (ce : c ≡ (node_at image h n).a) (condition : c ≡ 0 → ⊥) (b : Became emptied run words bytes run₁ words₁ bytes₁)
+      (q : Post image h (test c d) [] run₁ words₁ bytes₁ run₂ words₂ bytes₂ one) where
+    turn_way : Reached image h (turn n d s) [] run words bytes (test c d) (condition_of n d s ∷ []) run₁ words₁ bytes₁
+    turn_way = became (test c d) (condition_of n d s ∷ []) (λ K. rw ce (turn_tested (λ z. condition (ce ∙ z)))) b
 
     pub turn_holds : {holds : Bool} → told_of c one ≡ Continue holds → holds ≡ true
         → Reached image h (turn n d s) [] run words bytes (enter_body (node_at image h n).b (d + 1)) (body_of n d s (scope_of run₂) ∷ []) run₂ words₂ bytes₂
@@ -375,45 +376,48 @@ module _ {image : List ℕ} {h : Header} where
         let told = told_value c holds true one e k in
         via (enter_body (node_at image h n).b (d + 1)) (body_of n d s (scope_of run₂) ∷ []) (on_value told.1 turn_way q) (λ K. condition_told_lem told.2)
 
-    pub turn_fails : {holds : Bool} {run₃ : List ℕ} → told_of c one ≡ Continue holds → holds ≡ false → BecameRun (closed s) run₂ run₃ → Post image h (turn n d s) [] run words bytes run₃ words₂ bytes₂ (Done VUnit)
-    turn_fails {holds} {run₃} e k cl =
+    pub turn_fails : {holds : Bool} {run₃ : Run} {words₃ bytes₃ : List ℕ} → told_of c one ≡ Continue holds → holds ≡ false
+        → Became (closed s) run₂ words₂ bytes₂ run₃ words₃ bytes₃ → Post image h (turn n d s) [] run words bytes run₃ words₃ bytes₃ (Done VUnit)
+    turn_fails {holds} e k cl =
         let told = told_value c holds false one e k in
-        value_is (on_then (on_value told.1 turn_way q) (became (ret VUnit) [] (λ K. condition_told_lem told.2) (cl words₂ bytes₂ q.fits)))
+        value_is (on_then (on_value told.1 turn_way q) (became (ret VUnit) [] (λ K. condition_told_lem told.2) cl))
 
     pub turn_out : {r : Outcome} → told_of c one ≡ Break r → Post image h (turn n d s) [] run words bytes run₂ words₂ bytes₂ r
     turn_out e = told_out (condition_of n d s ∷ []) one refl e turn_way q (λ v z K. rw ce (condition_told_lem z))
 
-  module _ {n d m s f : ℕ} {run words bytes run₁ words₁ bytes₁ run₂ : List ℕ} (one : Outcome) {r : ControlFlow Outcome (Unit {0})} (fits : Fits run words)
-      (q : Post image h (enter_body m (d + 1)) [] run words bytes run₁ words₁ bytes₁ one) (a : PassOver image h n s f one run₁ run₂ r) where
+  module _ {n d m s f : ℕ} {run : Run} {words bytes : List ℕ} {run₁ : Run} {words₁ bytes₁ : List ℕ} {run₂ : Run} {words₂ bytes₂ : List ℕ} (one : Outcome)
+      {r : ControlFlow Outcome (Unit {0})} (fits : Fits run words) (q : Post image h (enter_body m (d + 1)) [] run words bytes run₁ words₁ bytes₁ one)
+      (a : PassGoes image h n s f one run₁ words₁ bytes₁ run₂ words₂ bytes₂ r) where
     pub pass_done : m ≡ (node_at image h n).b → f ≡ scope_of run
-        → Advance image h (enter_body (node_at image h n).b (d + 1)) (body_of n d s (scope_of run) ∷ []) (turn n d s) [] run words bytes run₂ words₁ bytes₁ r
+        → Advance image h (enter_body (node_at image h n).b (d + 1)) (body_of n d s (scope_of run) ∷ []) (turn n d s) [] run words bytes run₂ words₂ bytes₂ r
     pass_done e fe =
         let way : Reached image h (enter_body (node_at image h n).b (d + 1)) (body_of n d s (scope_of run) ∷ []) run words bytes (enter_body m (d + 1)) (body_of n d s f ∷ []) run words bytes
         = rw (e, fe) (here fits) in
-        on_after_on one way q (a d words₁ bytes₁ q.fits)
+        on_after_on one way q (a d)
 
   -- a pass takes, where the loop goes on
-  pub pass_falls : {n x m s f : ℕ} {run words bytes run₁ words₁ bytes₁ run₂ : List ℕ} (one : Outcome) {r : ControlFlow Outcome (Unit {0})}
-      → Post image h (enter_body m x) [] run words bytes run₁ words₁ bytes₁ one → PassOver image h n s f one run₁ run₂ r → r ≡ Continue tt → takes_of run₂ < takes_of run
-  pass_falls {words₁ = words₁} {bytes₁ = bytes₁} (Done v) q a e =
+  pub pass_falls : {n x m s f : ℕ} {run : Run} {words bytes : List ℕ} {run₁ : Run} {words₁ bytes₁ : List ℕ} {run₂ : Run} {words₂ bytes₂ : List ℕ} (one : Outcome)
+      {r : ControlFlow Outcome (Unit {0})} → Post image h (enter_body m x) [] run words bytes run₁ words₁ bytes₁ one
+      → PassGoes image h n s f one run₁ words₁ bytes₁ run₂ words₂ bytes₂ r → r ≡ Continue tt → takes_of run₂ < takes_of run
+  pass_falls (Done v) q a e =
       let entered = entering_falls body gives q.ways in
-      omega (arith, entered, no_more (on_is (a 0 words₁ bytes₁ q.fits).ways e))
-  pass_falls {words₁ = words₁} {bytes₁ = bytes₁} (Broke b v) q a e =
+      omega (arith, entered, no_more (on_is (a 0).ways e))
+  pass_falls (Broke b v) q a e =
       let entered = entering_falls body broke q.ways.0 in
-      omega (arith, entered, no_more (on_is ((a 0 words₁ bytes₁ q.fits).ways q.ways.1 q.ways.2) e))
-  pass_falls {words₁ = words₁} {bytes₁ = bytes₁} (Refused why place) q a e = let out = (a 0 words₁ bytes₁ q.fits).ways.0 in cc
-  pass_falls {words₁ = words₁} {bytes₁ = bytes₁} (Spent place) q a e = let out = (a 0 words₁ bytes₁ q.fits).ways.0 in cc
+      omega (arith, entered, no_more (on_is ((a 0).ways q.ways.1 q.ways.2) e))
+  pass_falls (Refused why place) q a e = let out = (a 0).ways.0 in cc
+  pass_falls (Spent place) q a e = let out = (a 0).ways.0 in cc
 
   -- ---- takes, where an evaluator returned
 
-  pub no_more_post : {t₀ : Ctl} {fs₀ : List Frame} {run words bytes run₁ words₁ bytes₁ : List ℕ} {r : Outcome} → Post image h t₀ fs₀ run words bytes run₁ words₁ bytes₁ r
+  pub no_more_post : {t₀ : Ctl} {fs₀ : List Frame} {run : Run} {words bytes : List ℕ} {run₁ : Run} {words₁ bytes₁ : List ℕ} {r : Outcome} → Post image h t₀ fs₀ run words bytes run₁ words₁ bytes₁ r
       → takes_of run₁ ≤ takes_of run
   no_more_post {r = Done v} q = came_less q.ways
   no_more_post {r = Broke b v} q = came_less q.ways.0
   no_more_post {r = Refused why place} q = not_more (q.ways.path [])
   no_more_post {r = Spent place} q = not_more (q.ways.path [])
 
-  pub break_of_lem : {t₀ : Ctl} {fs₀ : List Frame} {run words bytes run₁ words₁ bytes₁ : List ℕ} → load_of image ≡ Ok h → (one : Outcome)
+  pub break_of_lem : {t₀ : Ctl} {fs₀ : List Frame} {run : Run} {words bytes : List ℕ} {run₁ : Run} {words₁ bytes₁ : List ℕ} → load_of image ≡ Ok h → (one : Outcome)
       → Post image h t₀ fs₀ run words bytes run₁ words₁ bytes₁ one → IsBreak image h one
   break_of_lem loaded (Done v) q = record { is = tt }
   break_of_lem loaded (Broke b v) q = record { is = record { loaded = loaded; first = q.ways.1; last = q.ways.2 } }
@@ -422,18 +426,17 @@ module _ {image : List ℕ} {h : Header} where
 
   -- ---- kinds that evaluate nothing
 
-  pub break_post : {n d : ℕ} {run words bytes : List ℕ} → Ready image h n run words bytes → (node_at image h n).kind ≡ 12 → (node_at image h n).a ≡ 0
+  pub break_post : {n d : ℕ} {run : Run} {words bytes : List ℕ} → IsNode image h n → Fits run words → (node_at image h n).kind ≡ 12 → (node_at image h n).a ≡ 0
       → Post image h (work n d) [] run words bytes run words bytes (Broke n VUnit)
   unfolding kind_of kinds
-  break_post ready k bare =
-      record { ways = (record { path = λ K. bare_break (ap kind_of k) bare }, ready.first, ready.last); fits = ready.fits; room = refl }
+  break_post is fits k bare = record { ways = (record { path = λ K. bare_break (ap kind_of k) bare }, is.first, is.last); fits = fits; room = refl }
 
-  pub not_const_post : {n d : ℕ} {run words bytes : List ℕ} → Fits run words → (0 < (node_at image h n).kind → (node_at image h n).kind ≤ 16 → ⊥)
+  pub not_const_post : {n d : ℕ} {run : Run} {words bytes : List ℕ} → Fits run words → (0 < (node_at image h n).kind → (node_at image h n).kind ≤ 16 → ⊥)
       → Post image h (work n d) [] run words bytes run words bytes (Refused NotConst n)
   not_const_post {n} fits unlisted = refused (λ K. not_const (no_kind (node_at image h n).kind unlisted)) fits refl
 
-pub falls_after : {run run₁ run₂ : List ℕ} {r : ControlFlow Outcome (Unit {0})} → takes_of run₁ ≤ takes_of run → Falls r run₁ run₂ → Falls r run run₂
+pub falls_after : {run run₁ run₂ : Run} {r : ControlFlow Outcome (Unit {0})} → takes_of run₁ ≤ takes_of run → Falls r run₁ run₂ → Falls r run run₂
 falls_after {run} {run₁} {run₂} fewer f = record { less = λ e. omega (arith, fewer, f.less e) }
 
-pub never_on : {run run₁ : List ℕ} {r : Outcome} → Falls (Break r) run run₁
+pub never_on : {run run₁ : Run} {r : Outcome} → Falls (Break r) run run₁
 never_on = record { less = λ e. cc }

@@ -22,10 +22,8 @@ use Rattle.records.specs.Records.{fits, is_node, function_good}
 use Rattle.image.proofs.Loads.{node_loaded, function_loaded}
 use Rattle.image.proofs.Chains.{Along, along_class}
 use Rattle.rules.specs.Machine.{kind_of, kinds, item_node}
-use Rattle.stores.specs.Stores.{Fits}
 use Rattle.building.specs.Making.{IsKind}
 use Rattle.building.proofs.ChainLaws.{size_right}
-use Rattle.outcomes.specs.Post.{Ready}
 use Rattle.outcomes.specs.Outcomes.{IsNode}
 use Rattle.operands.specs.Waiting.{Single, declares, sets, assigns, breaks, operand_of}
 use Rattle.items.specs.Gathering.{Builds, Gathers, built, called, templates, vecs, tuples, objects, IsItem}
@@ -52,23 +50,17 @@ kind_is e = ap (λ (x : Node). x.kind) e
 pub body_of_function : {f g : Function} → f ≡ g → f.body ≡ g.body
 body_of_function e = ap (λ (x : Function). x.body) e
 
-module _ {image : List ℕ} {h : Header} {n : ℕ} {run words bytes : List ℕ} (r : Ready image h n run words bytes) where
-  pub whole : size_of h ≤ length image
-  whole = size_right image h r.loaded
-
+module _ {image : List ℕ} {h : Header} {n : ℕ} (r : IsNode image h n) where
   -- what reading the node asks
-  pub there : (1 ≤ n) × (n ≤ h.nodes) × (size_of h ≤ length image)
-  there = (r.first, r.last, whole)
-
-  pub is_node_lem : IsNode image h n
-  is_node_lem = record { loaded = r.loaded; first = r.first; last = r.last }
+  pub there : (1 ≤ n) × (n ≤ h.nodes)
+  there = (r.first, r.last)
 
   pub is_kind : (k : ℕ) → (node_at image h n).kind ≡ k → IsKind k image h n
   is_kind k e = record { loaded = r.loaded; first = r.first; last = r.last; same = e }
 
-  -- another node, and stores that came after
-  pub ready_at : (m : ℕ) {run' words' bytes' : List ℕ} → (1 ≤ m) × (m ≤ h.nodes) → Fits run' words' → length bytes' ≡ length bytes → Ready image h m run' words' bytes'
-  ready_at m there f long = record { loaded = r.loaded; first = there.0; last = there.1; fits = f; room = long ∙ r.room }
+  -- another node
+  pub node_in : {m : ℕ} → (1 ≤ m) × (m ≤ h.nodes) → IsNode image h m
+  node_in there = record { loaded = r.loaded; first = there.0; last = there.1 }
 
   module _ (k : ℕ) (kind : (node_at image h n).kind ≡ k) (needed heads : Bool) (class : Class) where
     pub a_there : (row_of k).a ≡ NodeRole needed heads class → (needed ≡ false → (node_at image h n).a ≡ 0 → ⊥)
@@ -93,7 +85,7 @@ module _ {image : List ℕ} {h : Header} {n : ℕ} {run words bytes : List ℕ} 
 
 -- ---- what a node of each kind names, by the table of kinds
 
-module _ {image : List ℕ} {h : Header} {n : ℕ} {run words bytes : List ℕ} (r : Ready image h n run words bytes) where
+module _ {image : List ℕ} {h : Header} {n : ℕ} (r : IsNode image h n) where
   pub instruction_there : (node_at image h n).kind ≡ 1 → (i : ℕ) → Along image h n i → (1 ≤ i) × (i ≤ h.nodes)
   unfolding row_of table
   instruction_there k i p = let there = along_there r 1 k false Expression refl i p in (there.0, there.1)
@@ -140,7 +132,7 @@ module _ {image : List ℕ} {h : Header} {n : ℕ} {run words bytes : List ℕ} 
 
 -- ---- items
 
-module _ {image : List ℕ} {h : Header} {n : ℕ} {run words bytes : List ℕ} (r : Ready image h n run words bytes) (i : ℕ) (p : Along image h n i) where
+module _ {image : List ℕ} {h : Header} {n : ℕ} (r : IsNode image h n) (i : ℕ) (p : Along image h n i) where
   -- an item that is evaluated itself
   itself : (k : ℕ) → (node_at image h n).kind ≡ k → (k ≡ 15 → ⊥) → (needed : Bool) (class : Class) → (row_of k).a ≡ NodeRole needed true class → IsItem image h n i
   itself k kind other needed class role =
@@ -153,7 +145,7 @@ module _ {image : List ℕ} {h : Header} {n : ℕ} {run words bytes : List ℕ} 
   unfolding row_of table
   within_entry kind =
       let there = along_there r 15 kind false Entry refl i p in
-      let inner : Ready image h i run words bytes = ready_at r i (there.0, there.1) r.fits refl in
+      let inner : IsNode image h i = node_in r (there.0, there.1) in
       let value = b_there inner 19 (eqb-true (node_at image h i).kind 19 there.2) true false Expression refl (λ (e : true ≡ false). absurd (true≢false e)) in
       let own : item_node image h n i ≡ (node_at image h i).b = rw (eq-eqb (node_at image h n).kind 15 kind) in
       record { first = there.0; last = there.1; inner_first = λ _. rw own value.0; inner_last = λ _. rw own value.1 }
@@ -171,7 +163,7 @@ module _ {image : List ℕ} {h : Header} {n : ℕ} {run words bytes : List ℕ} 
 
 -- ---- the one operand of a decl, set, assign or break
 
-module _ {image : List ℕ} {h : Header} {n : ℕ} {run words bytes : List ℕ} (r : Ready image h n run words bytes) where
+module _ {image : List ℕ} {h : Header} {n : ℕ} (r : IsNode image h n) where
   operand_by : {k : ℕ} → (node_at image h n).kind ≡ k → Single k → (operand_of (kind_of k) (node_at image h n) ≡ 0 → ⊥)
       → (1 ≤ operand_of (kind_of k) (node_at image h n)) × (operand_of (kind_of k) (node_at image h n) ≤ h.nodes)
   unfolding row_of table kind_of kinds
@@ -198,7 +190,7 @@ module _ {image : List ℕ} {h : Header} {n : ℕ} {run words bytes : List ℕ} 
 
 -- ---- a function's body
 
-pub body_there : {image : List ℕ} {h : Header} {n : ℕ} {run words bytes : List ℕ} → Ready image h n run words bytes → (node_at image h n).kind ≡ 16
+pub body_there : {image : List ℕ} {h : Header} {n : ℕ} → IsNode image h n → (node_at image h n).kind ≡ 16
     → (1 ≤ (function_at image (node_at image h n).tag).body) × ((function_at image (node_at image h n).tag).body ≤ h.nodes)
 unfolding row_of table tag_role fits function_good
 body_there {image} {h} {n} r kind =
