@@ -7,7 +7,6 @@ use mathlib.Core.List.{List}
 use native.Mathlib.Decide.{ℕ_discrete}
 use borrow.Author.Tests.{ltb-true, leb-true, eqb-true, eq-eqb, ne_eqb}
 use lib.Dec.{ltb, leb, eqb}
-use lib.ListN.{length}
 use Rattle.fields.proofs.Tests.{and_both}
 use Rattle.packed.specs.declared.layout.Header.{Header}
 use Rattle.packed.specs.declared.layout.Node.{Node}
@@ -16,14 +15,13 @@ use Rattle.kinds.specs.declared.Class.{Class}
 use Rattle.kinds.specs.declared.Class.TheVariants.{Expression, Condition, Scope, Arm, Component, Entry}
 use Rattle.kinds.specs.declared.Role.{Role}
 use Rattle.kinds.specs.declared.Role.TheVariants.{Node as NodeRole}
-use Rattle.packed.specs.Layout.{node_at, function_at, size_of}
+use Rattle.packed.specs.Layout.{node_at, function_at}
 use Rattle.kinds.specs.Kinds.{row_of, table, tag_role, is_of}
 use Rattle.records.specs.Records.{fits, is_node, function_good}
 use Rattle.image.proofs.Loads.{node_loaded, function_loaded}
 use Rattle.image.proofs.Chains.{Along, along_class}
 use Rattle.rules.specs.Machine.{kind_of, kinds, item_node}
 use Rattle.building.specs.Making.{IsKind}
-use Rattle.building.proofs.ChainLaws.{size_right}
 use Rattle.outcomes.specs.Outcomes.{IsNode}
 use Rattle.operands.specs.Waiting.{Single, declares, sets, assigns, breaks, operand_of}
 use Rattle.items.specs.Gathering.{Builds, Gathers, built, called, templates, vecs, tuples, objects, IsItem}

@@ -9,8 +9,6 @@ use Rattle.outcomes.proofs.Ways.{out_of}
 use Rattle.packed.specs.declared.layout.Node.{Node}
 use Rattle.rules.proofs.Moves.{body, expression}
 use Rattle.rules.specs.Machine.{kind_of}
-use borrow.Author.Rules.{rules}
-use mathlib.Core.List.{[]}
 use mathlib.Core.Path.{ap, refl, subst, sym, ◌∙◌, ◌≡◌}
 use native.Mathlib.Omega.{arith}
 use Rattle.eval.proofs.+evaluators.Goals as goal
