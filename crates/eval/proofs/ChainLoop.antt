@@ -12,20 +12,21 @@ use Rattle.rules.specs.Machine.{Ctl, instructions, items, arms, onward}
 use Rattle.building.specs.Making.{onward_of}
 use Rattle.stores.specs.Stores.{Fits}
 use Rattle.building.proofs.ChainLaws.{left_of, onward_less, along_onward}
-use Rattle.eval.proofs.MemberLaws.{Reached, here, on_then}
 use Rattle.stores.specs.declared.run.Run.{Run}
+use Rattle.eval.proofs.MemberLaws.{Reached, here, on_then}
 
 pub record AtChain (image : List ℕ) (h : Header) (n : ℕ) (t₀ t : Ctl) (i : ℕ) (run₀ : Run) (words₀ bytes₀ : List ℕ) (run : Run) (words bytes : List ℕ) : Type 0 where
   pub reached : Reached image h t₀ [] run₀ words₀ bytes₀ t [] run words bytes
   pub along : (i ≡ 0 → ⊥) → Along image h n i
 
 module _ {image : List ℕ} {h : Header} {n : ℕ} where
-  pub chain_begins : {t : Ctl} {i : ℕ} {run : Run} {words bytes : List ℕ} → Fits run words → i ≡ (node_at image h n).a → AtChain image h n t t i run words bytes run words bytes
+  pub chain_begins : {t : Ctl} {i : ℕ} {run : Run} {words bytes : List ℕ} → Fits run words → i ≡ (node_at image h n).a
+      → AtChain image h n t t i run words bytes run words bytes
   chain_begins fits e = record { reached = here fits; along = λ some. begins (sym e) some }
 
   -- the next node, which the code has from node i
-  module _ {t₀ t : Ctl} {i j : ℕ} {node : Node} {run₀ : Run} {words₀ bytes₀ : List ℕ} {run : Run} {words bytes : List ℕ} (at : AtChain image h n t₀ t i run₀ words₀ bytes₀ run words bytes)
-      (more : i ≡ 0 → ⊥) (d : node ≡ node_at image h i) (e : j ≡ onward_of node i) where
+  module _ {t₀ t : Ctl} {i j : ℕ} {node : Node} {run₀ : Run} {words₀ bytes₀ : List ℕ} {run : Run} {words bytes : List ℕ}
+      (at : AtChain image h n t₀ t i run₀ words₀ bytes₀ run words bytes) (more : i ≡ 0 → ⊥) (d : node ≡ node_at image h i) (e : j ≡ onward_of node i) where
     next_is : j ≡ onward image h i
     next_is = e ∙ ap (λ (x : Node). onward_of x i) d
 
@@ -75,6 +76,6 @@ pub record AtTurn (image : List ℕ) (h : Header) (t : Ctl) (run₀ : Run) (word
 pub turn_begins : {image : List ℕ} {h : Header} {t : Ctl} {run : Run} {words bytes : List ℕ} → Fits run words → AtTurn image h t run words bytes run words bytes
 turn_begins fits = record { reached = here fits }
 
-pub turn_next : {image : List ℕ} {h : Header} {t : Ctl} {run₀ : Run} {words₀ bytes₀ : List ℕ} {run : Run} {words bytes : List ℕ} {run₁ : Run} {words₁ bytes₁ : List ℕ} → AtTurn image h t run₀ words₀ bytes₀ run words bytes
-    → Reached image h t [] run words bytes t [] run₁ words₁ bytes₁ → AtTurn image h t run₀ words₀ bytes₀ run₁ words₁ bytes₁
+pub turn_next : {image : List ℕ} {h : Header} {t : Ctl} {run₀ : Run} {words₀ bytes₀ : List ℕ} {run : Run} {words bytes : List ℕ} {run₁ : Run} {words₁ bytes₁ : List ℕ}
+    → AtTurn image h t run₀ words₀ bytes₀ run words bytes → Reached image h t [] run words bytes t [] run₁ words₁ bytes₁ → AtTurn image h t run₀ words₀ bytes₀ run₁ words₁ bytes₁
 turn_next at p = record { reached = on_then at.reached p }

@@ -49,10 +49,6 @@ pub body_of_function : {f g : Function} → f ≡ g → f.body ≡ g.body
 body_of_function e = ap (λ (x : Function). x.body) e
 
 module _ {image : List ℕ} {h : Header} {n : ℕ} (r : IsNode image h n) where
-  -- what reading the node asks
-  pub there : (1 ≤ n) × (n ≤ h.nodes)
-  there = (r.first, r.last)
-
   pub is_kind : (k : ℕ) → (node_at image h n).kind ≡ k → IsKind k image h n
   is_kind k e = record { loaded = r.loaded; first = r.first; last = r.last; same = e }
 

@@ -2,9 +2,10 @@
 use Prim.Native.Nat.{◌≤◌}
 use Rattle.eval.proofs.ChainLoop.{arms_end, arms_next, chain_begins, chain_less, instructions_end, instructions_next, items_next, turn_begins, turn_next}
 use Rattle.eval.proofs.MemberLaws.{arm_fails, arm_holds, arm_out, branches_way, break_post, call_done, call_refused, condition_done, default_done, default_unit, entered_less, entered_out, entered_post, falls_after, instruction_next, instruction_past, item_done, item_skipped, items_start, items_way, left_past, let_done, loop_begun, never_on, no_more, no_more_post, not_const_post, on_is, on_post, on_then, operand_done, out_is, pass_done, pass_falls, right_done, scope_begun, scope_last, scope_unit, taken_done, turn_bare, turn_fails, turn_holds, turn_out}
-use Rattle.eval.proofs.NodeRanges.{instruction_there, last_there, left_there, right_there, arm_there, default_there, loop_condition_there, loop_body_there, arm_condition_there, arm_body_there, let_there, body_there, item_there, operand_some, operand_there, node_in, there, a_of, b_of, kind_is, body_of_function, single_within, builds_within}
+use Rattle.eval.proofs.NodeRanges.{instruction_there, last_there, left_there, right_there, arm_there, default_there, loop_condition_there, loop_body_there, arm_condition_there, arm_body_there, let_there, body_there, item_there, operand_some, operand_there, node_in, a_of, b_of, kind_is, body_of_function, single_within, builds_within}
 use Rattle.items.specs.Gathering.{Builds, Gathers, built, called, templates}
 use Rattle.operands.specs.Waiting.{Single, breaks, operand_of}
+use Rattle.outcomes.proofs.NodeLaws.{node_there}
 use Rattle.outcomes.proofs.Ways.{out_of}
 use Rattle.packed.specs.declared.layout.Node.{Node}
 use Rattle.rules.proofs.Moves.{body, expression}
@@ -15,7 +16,7 @@ use Rattle.eval.proofs.+evaluators.Goals as goal
 use Rattle.eval.proofs.+evaluators.Goals.{ir_work-in-6-1, ir_work-in_default+else-kind-lt1+else-kind-lt6+then-kind-lt16}
 
 pub ir_arm-node-arm-requires : goal.ir_arm-node-arm-requires
-ir_arm-node-arm-requires t c = there c.requires.0
+ir_arm-node-arm-requires t c = node_there c.requires.0
 
 pub ir_arm-ir_condition-one-requires : goal.ir_arm-ir_condition-one-requires
 ir_arm-ir_condition-one-requires t c =
@@ -25,7 +26,7 @@ ir_arm-ir_condition-one-requires t c =
     (omega (arith, opened.kept.takes), (node_in r (rw (a_of c.node-arm.ensures) there), c.requires.1))
 
 pub ir_binary-node-node-requires : goal.ir_binary-node-node-requires
-ir_binary-node-node-requires t c = there c.requires.0
+ir_binary-node-node-requires t c = node_there c.requires.0
 
 pub ir_binary-ir_expr-first-requires : goal.ir_binary-ir_expr-first-requires
 ir_binary-ir_expr-first-requires t c =
@@ -61,7 +62,7 @@ pub ir_body-returns-in-Break : goal.ir_body-returns-in-Break
 ir_body-returns-in-Break t c = entered_out (c.enter_body-entered.ensures.store _ _) c.in-Break.is
 
 pub ir_branches-node-i-requires : goal.ir_branches-node-i-requires
-ir_branches-node-i-requires t c = there c.requires.0
+ir_branches-node-i-requires t c = node_there c.requires.0
 
 pub ir_branches-loop-i-init : goal.ir_branches-loop-i-init
 ir_branches-loop-i-init t c = chain_begins c.args.stores.now.fits (a_of c.node-i.ensures)
@@ -147,7 +148,7 @@ ir_called-returns t c =
     c.ir_expr-one.ensures c.leave_call.ensures.store
 
 pub ir_condition-node-node-requires : goal.ir_condition-node-node-requires
-ir_condition-node-node-requires t c = there c.requires.0
+ir_condition-node-node-requires t c = node_there c.requires.0
 
 pub ir_condition-returns-then-node-ne20 : goal.ir_condition-returns-then-node-ne20
 ir_condition-returns-then-node-ne20 t c = condition_done c.args.stores.now.fits (λ z. c.if-node-ne20.true (kind_is c.node-node.ensures ∙ z)) c.ir_expr.ensures
@@ -162,7 +163,7 @@ pub ir_condition-returns : goal.ir_condition-returns
 ir_condition-returns t c = let_done c.args.stores.now.fits _ (sym (kind_is c.node-node.ensures) ∙ c.if-node-ne20.false) (a_of c.node-node.ensures) c.ir_expr-one.ensures c.finish_let.ensures.store
 
 pub ir_default-node-node-requires : goal.ir_default-node-node-requires
-ir_default-node-node-requires t c = there c.requires.0
+ir_default-node-node-requires t c = node_there c.requires.0
 
 pub ir_default-returns-then-node-eq0 : goal.ir_default-returns-then-node-eq0
 ir_default-returns-then-node-eq0 t c = default_unit c.args.stores.now.fits (sym (b_of c.node-node.ensures) ∙ c.if-node-eq0.true)
@@ -178,7 +179,7 @@ pub ir_default-returns : goal.ir_default-returns
 ir_default-returns t c = default_done c.args.stores.now.fits (b_of c.node-node.ensures) c.if-node-eq0.false c.ir_body.ensures
 
 pub ir_expr-enter_expr-entered-requires : goal.ir_expr-enter_expr-entered-requires
-ir_expr-enter_expr-entered-requires t c = there c.requires
+ir_expr-enter_expr-entered-requires t c = node_there c.requires
 
 pub ir_expr-ir_work-requires : goal.ir_expr-ir_work-requires
 ir_expr-ir_work-requires t c =
@@ -204,7 +205,7 @@ ir_item-returns t c =
     item_done (λ z. omega (arith, z, it.first)) c.args.stores.now.fits _ (λ z. c.if-item-eq17.false (kind_is c.node-item.ensures ∙ z)) c.item_node-inner.ensures c.ir_expr-one.ensures c.finish_item.ensures.store
 
 pub ir_items-node-i-requires : goal.ir_items-node-i-requires
-ir_items-node-i-requires t c = there c.requires.0
+ir_items-node-i-requires t c = node_there c.requires.0
 
 pub ir_items-loop-i-init : goal.ir_items-loop-i-init
 ir_items-loop-i-init t c = chain_begins c.args.stores.now.fits (a_of c.node-i.ensures)
@@ -226,7 +227,7 @@ ir_items-loop-i-smaller t c =
     chain_less at more c.node.ensures c.onward-i.ensures r.loaded item.last
 
 pub ir_last-node-node-requires : goal.ir_last-node-node-requires
-ir_last-node-node-requires t c = there c.requires.0
+ir_last-node-node-requires t c = node_there c.requires.0
 
 pub ir_last-returns-then-node-eq0 : goal.ir_last-returns-then-node-eq0
 ir_last-returns-then-node-eq0 t c = scope_unit (sym (b_of c.node-node.ensures) ∙ c.if-node-eq0.true) c.close.ensures.store
@@ -258,7 +259,7 @@ pub ir_loop-loop-r-preserved : goal.ir_loop-loop-r-preserved
 ir_loop-loop-r-preserved t c = turn_next c.loop-r.invariant (on_is c.ir_turn-one.ensures.0 c.in_default.is)
 
 pub ir_operand-node-requires : goal.ir_operand-node-requires
-ir_operand-node-requires t c = there c.requires.0
+ir_operand-node-requires t c = node_there c.requires.0
 
 pub ir_operand-ir_expr-one-requires : goal.ir_operand-ir_expr-one-requires
 ir_operand-ir_expr-one-requires t c =
@@ -272,7 +273,7 @@ ir_operand-returns t c =
     operand_done c.args.stores.now.fits _ c.requires.2 e (λ z. c.requires.3 (sym e ∙ z)) c.ir_expr-one.ensures c.finish_operand.ensures.store
 
 pub ir_pass-node-node-requires : goal.ir_pass-node-node-requires
-ir_pass-node-node-requires t c = there c.requires.0
+ir_pass-node-node-requires t c = node_there c.requires.0
 
 pub ir_pass-ir_body-one-requires : goal.ir_pass-ir_body-one-requires
 ir_pass-ir_body-one-requires t c =
@@ -286,7 +287,7 @@ ir_pass-returns t c =
     (pass_done _ c.args.stores.now.fits c.ir_body-one.ensures c.after_pass.ensures.store e refl, record { less = pass_falls _ c.ir_body-one.ensures c.after_pass.ensures.store })
 
 pub ir_scope-node-node-requires : goal.ir_scope-node-node-requires
-ir_scope-node-node-requires t c = there c.requires.0
+ir_scope-node-node-requires t c = node_there c.requires.0
 
 pub ir_scope-loop-i-init : goal.ir_scope-loop-i-init
 ir_scope-loop-i-init t c = chain_begins c.«open».ensures.store.kept.fits (a_of c.node-node.ensures)
@@ -339,7 +340,7 @@ pub ir_taken-returns : goal.ir_taken-returns
 ir_taken-returns t c = taken_done _ c.args.stores.now.fits c.ir_body-one.ensures c.leave_scope.ensures.store
 
 pub ir_turn-node-node-requires : goal.ir_turn-node-node-requires
-ir_turn-node-node-requires t c = there c.requires.0
+ir_turn-node-node-requires t c = node_there c.requires.0
 
 pub ir_turn-returns-then-node-eq0 : goal.ir_turn-returns-then-node-eq0
 ir_turn-returns-then-node-eq0 t c = (on_then (turn_bare c.args.stores.now.fits (sym (a_of c.node-node.ensures) ∙ c.if-node-eq0.true)) c.ir_pass.ensures.0, c.ir_pass.ensures.1)
@@ -353,7 +354,7 @@ ir_turn-ir_condition-one-requires t c =
     (omega (arith, emptied.kept.takes), (node_in r (rw e there), c.requires.1))
 
 pub ir_work-node-node-requires : goal.ir_work-node-node-requires
-ir_work-node-node-requires t c = there c.requires.0
+ir_work-node-node-requires t c = node_there c.requires.0
 
 pub ir_work-returns-then-node-eq0 : goal.ir_work-returns-then-node-eq0
 ir_work-returns-then-node-eq0 t c = break_post c.requires.0 c.args.stores.now.fits (sym (kind_is c.node-node.ensures) ∙ c.in-12.is) (sym (a_of c.node-node.ensures) ∙ c.if-node-eq0.true)
