@@ -1,9 +1,8 @@
 -- From the outcome of the root to the answer that the rules and the budget give. Assumes nothing.
 use mathlib.Core.Path.{◌≡◌, refl, sym, subst}
-use mathlib.Core.List.{List, [], ◌∷◌}
+use mathlib.Core.List.{List, []}
 use Prim.Native.Nat.{ℕ, ◌-◌, ◌≤◌}
 use native.Mathlib.Omega.{arith}
-use Rattle.std.proofs.Common.{zero-le}
 use lib.ListN.{length}
 use Rattle.packed.specs.declared.layout.Header.{Header}
 use Rattle.packed.specs.Layout.{size_of}
@@ -23,38 +22,32 @@ use Rattle.rules.proofs.Going.{◌then◌}
 use Rattle.rules.proofs.BreakMoves.{break_at_root}
 use Rattle.stores.specs.View.{view}
 use Rattle.stores.specs.Stores.{store_of, bindings_in, pendings_in, cells_in, takes_of}
+use Rattle.stores.specs.declared.run.Run.{Run}
 use Rattle.outcomes.specs.declared.Outcome.{Outcome}
 use Rattle.outcomes.specs.declared.Outcome.TheVariants.{Done, Broke, Refused, Spent}
-use Rattle.outcomes.specs.Post.{Ready, Ways, Post}
+use Rattle.outcomes.specs.Post.{Ways, Post}
+use Rattle.outcomes.specs.Outcomes.{IsNode}
 use Rattle.gablestrand.specs.Evaluate.{store_words, store_bytes, LongEnough, cleared, Decided, Evaluated, long}
 use Rattle.gablestrand.specs.Answering.{Finished}
 
 -- the numbers of a run that begins
-abbrev pub fresh : ℕ → List ℕ
-fresh budget = budget ∷ 0 ∷ 0 ∷ 0 ∷ 0 ∷ 0 ∷ 0 ∷ 0 ∷ 0 ∷ 0 ∷ 0 ∷ 0 ∷ 0 ∷ 0 ∷ 0 ∷ 0 ∷ []
+abbrev pub fresh : ℕ → Run
+fresh budget = record { takes = budget; bound = 0; scope = 0; floor = 0; pending = 0; cells = 0; text = 0 }
 
 fresh_empty : (budget : ℕ) (words bytes : List ℕ) → store_of (fresh budget) words bytes ≡ empty
 unfolding store_of bindings_in pendings_in cells_in view
 fresh_empty budget words bytes = refl
 
-pub fresh_ready : {image : List ℕ} {h : Header} {words bytes : List ℕ} (budget : ℕ) → load_of image ≡ Ok h → length words ≡ 8192 → length bytes ≡ 16384
-    → Ready image h h.root (fresh budget) words bytes
-fresh_ready {image} {h} budget loaded w b =
-    record {
-      loaded = loaded;
-      first = (header_right image h loaded).root_node.0;
-      last = (header_right image h loaded).root_node.1;
-      fits = record { run_length = refl; words_length = omega (arith, w); bindings = zero-le; pending = zero-le; cells = zero-le; text = zero-le };
-      room = b;
-    }
+pub root_node : {image : List ℕ} {h : Header} → load_of image ≡ Ok h → IsNode image h h.root
+root_node {image} {h} loaded = let right = header_right image h loaded in record { loaded = loaded; first = right.root_node.0; last = right.root_node.1 }
 
 pub loaded_whole : (image : List ℕ) {h : Header} → load_of image ≡ Ok h → size_of h ≤ length image
 loaded_whole image {h} loaded = omega (arith, (header_right image h loaded).exact)
 
-abbrev AtRoot : List ℕ → Header → ℕ → List ℕ → List ℕ → List ℕ → List ℕ → List ℕ → Outcome → Type 0
+abbrev AtRoot : List ℕ → Header → ℕ → List ℕ → List ℕ → Run → List ℕ → List ℕ → Outcome → Type 0
 AtRoot image h budget words bytes run' words' bytes' r = Post image h (enter h.root 1) [] (fresh budget) words bytes run' words' bytes' r
 
-module _ (image : List ℕ) (h : Header) (budget : ℕ) (words bytes run' words' bytes' : List ℕ) where
+module _ (image : List ℕ) (h : Header) (budget : ℕ) (words bytes : List ℕ) (run' : Run) (words' bytes' : List ℕ) where
   abbrev root : Cfg
   root = going (enter h.root 1) [] (store_of (fresh budget) words bytes)
 
@@ -75,7 +68,7 @@ module _ (image : List ℕ) (h : Header) (budget : ℕ) (words bytes run' words'
       → Budgeted image h out (start image h) budget (ARefused why place (budget - takes_of run')) out
   stops why place out way = ended (record { comes = comes (takes_of run') (stop why place) way; end = refused }) (omega arith) stopped
 
-module _ {image : List ℕ} {h : Header} {budget : ℕ} {words bytes run' words' bytes' : List ℕ} where
+module _ {image : List ℕ} {h : Header} {budget : ℕ} {words bytes : List ℕ} {run' : Run} {words' bytes' : List ℕ} where
   pub left_within : {r : Outcome} → AtRoot image h budget words bytes run' words' bytes' r → takes_of run' ≤ budget
   left_within {r} p = within image h budget words bytes run' words' bytes' r p.ways
 

@@ -4,8 +4,7 @@
 ghost use Rattle.std.specs.Prelude.{◌≡◌, length};
 ghost use Rattle.image.specs.Load.{load_of};
 ghost use Rattle.rules.specs.Runs.{start, Budgeted};
-ghost use Rattle.stores.specs.Stores.{store_of};
-ghost use Rattle.output.specs.Writing.{Sound};
+ghost use Rattle.stores.specs.Lent.{seen};
 ghost use Rattle.gablestrand.specs.Evaluate.{store_words, store_bytes, Decided, Evaluated, Told, length_of};
 ghost use Rattle.gablestrand.specs.Answering.{Finished};
 
@@ -13,10 +12,11 @@ use eval::ir_expr;
 use image::load;
 use outcomes::Outcome;
 use output::write_value;
-use packed::layout::Header;
+use packed::image::Image;
 use pouring::NoPlace;
 use rules::{Answer, Refusal, Value};
-use stores::run::TAKES;
+use stores::lent::Stores;
+use stores::run::Run;
 
 // "Word store at least 8,192 words, byte store at least 16,384"
 pub const WORDS: usize = 8192;
@@ -24,21 +24,11 @@ pub const WORDS: usize = 8192;
 pub const BYTES: usize = 16384;
 
 // The answer of a run that came to a value: "26, 27 last", at the root.
-fn finish(
-    image: &[u8],
-    h: Header,
-    words: &[u64],
-    bytes: &[u8],
-    run: &[u64; 16],
-    v: Value,
-    steps: u64,
-    out: &mut [u8],
-) -> Answer
-    requires { Sound image.now h run.now words.now bytes.now }
-    ensures { Finished image.now h (store_of run.now words.now bytes.now) v steps out.old out.new result }
+fn finish(image: &Image, stores: &Stores, v: Value, steps: u64, out: &mut [u8]) -> Answer
+    ensures { Finished image.now.bytes.now image.now.header (seen stores.now) v steps out.old out.new result }
 {
-    let root = usize::from(h.root);
-    match write_value(image, h, words, bytes, run, v, out) {
+    let root = usize::from(image.header.root);
+    match write_value(image, stores, v, out) {
         Ok(length) => Answer::Value(length, steps),
         Err(NoPlace::Nested) => Answer::Refused(Refusal::Nesting, root, steps),
         Err(NoPlace::Full) => Answer::Refused(Refusal::Room, root, steps),
@@ -47,22 +37,29 @@ fn finish(
 
 // An image that loads, evaluated from its root at depth 1 with nothing in the store.
 fn run_image(
-    image: &[u8],
-    h: Header,
+    image: &Image,
     budget: u64,
     words: &mut [u64],
     bytes: &mut [u8],
     out: &mut [u8],
 ) -> Answer
-    requires { (load_of image.now ≡ Ok h) × (length words.old ≡ store_words) × (length bytes.old ≡ store_bytes) }
-    ensures { Budgeted image.now h out.old (start image.now h) budget result out.new }
+    requires { (load_of image.now.bytes.now ≡ Ok image.now.header) × (length words.old ≡ store_words) × (length bytes.old ≡ store_bytes) }
+    ensures { Budgeted image.now.bytes.now image.now.header out.old (start image.now.bytes.now image.now.header) budget result out.new }
 {
-    let mut run = [0u64; 16];
-    run[TAKES] = budget;
-    let outcome = ir_expr(image, h, words, bytes, &mut run, h.root, 1);
-    let steps = budget - run[TAKES];
+    let run = Run {
+        takes: budget,
+        bound: 0,
+        scope: 0,
+        floor: 0,
+        pending: 0,
+        cells: 0,
+        text: 0,
+    };
+    let mut stores = Stores { words, bytes, run };
+    let outcome = ir_expr(image, &mut stores, image.header.root, 1);
+    let steps = budget - stores.run.takes;
     match outcome {
-        Outcome::Done(v) => finish(image, h, words, bytes, &run, v, steps, out),
+        Outcome::Done(v) => finish(image, &stores, v, steps, out),
         Outcome::Broke(n, _) => Answer::Refused(Refusal::BreakOutside, usize::from(n), steps),
         Outcome::Refused(why, place) => Answer::Refused(why, usize::from(place), steps),
         Outcome::Spent(place) => Answer::Spent(usize::from(place), steps),
@@ -81,7 +78,13 @@ fn answer_of(
     ensures { Decided image.now budget out.old result out.new }
 {
     match load(image) {
-        Ok(h) => run_image(image, h, budget, words, bytes, out),
+        Ok(header) => {
+            let whole = Image {
+                bytes: image,
+                header,
+            };
+            run_image(&whole, budget, words, bytes, out)
+        }
         Err(error) => Answer::NotLoaded(error),
     }
 }

@@ -1,16 +1,12 @@
 -- The root is ready, and its outcome is the answer.
-use Rattle.std.proofs.Common.{arith}
-use Rattle.gablestrand.proofs.RootLaws.{fresh_ready, loaded_whole, left_within, done, broke, stopped_at, starved}
+use Rattle.gablestrand.proofs.RootLaws.{root_node, left_within, done, broke, stopped_at, starved}
 use Rattle.gablestrand.proofs.run_image.Goals as goal
 
 pub ir_expr-outcome-requires : goal.ir_expr-outcome-requires
-ir_expr-outcome-requires c = fresh_ready _ c.requires.0 c.requires.1 c.requires.2
+ir_expr-outcome-requires c = root_node c.requires.0
 
 pub overflow_sub-steps : goal.overflow_sub-steps
 overflow_sub-steps c = left_within c.ir_expr-outcome.ensures
-
-pub finish-requires : goal.finish-requires
-finish-requires c = record { whole = loaded_whole _ c.requires.0; fits = c.ir_expr-outcome.ensures.fits; room = omega (arith, c.ir_expr-outcome.ensures.room) }
 
 pub returns-in-Done : goal.returns-in-Done
 returns-in-Done c = done c.in-Done.ensures c.finish.ensures
