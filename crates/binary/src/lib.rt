@@ -100,6 +100,7 @@ fn float_pair(
 }
 
 // The operation of node n on both values: "If both operands are signed, all ops".
+#[tactic(auto, unfolding(rules::specs::Building::binary_of))]
 fn binary_of(
     image: &[u8],
     h: Header,
