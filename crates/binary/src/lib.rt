@@ -76,7 +76,8 @@ fn text_pair(
     join(image, h, bytes, run, n, start, len, start2, len2)
 }
 
-// "if both are float, all but shifts".
+// "if both are float, all but shifts". Of one shape with `binary_of`, but another case comes after it and another operation stands in it: one function for both
+// would be no plainer.
 fn float_pair(
     image: &[u8],
     h: Header,

@@ -16,7 +16,7 @@ use slots::{length_of, start_of};
 use stores::run::TEXT;
 
 // Bytes of a slice: from which on, and how many.
-#[derive(Clone, Copy)]
+#[derive(Clone, Copy, Debug, PartialEq, Eq)]
 pub struct Span {
     pub from: usize,
     pub count: usize,
@@ -33,7 +33,7 @@ impl Span {
 }
 
 // Where the bytes of a text stand: first in the image, then among those that were built.
-#[derive(Clone, Copy)]
+#[derive(Clone, Copy, Debug, PartialEq, Eq)]
 pub struct Sources {
     pub image: Span,
     pub built: Span,
@@ -136,16 +136,14 @@ pub fn put_text(
     ensures end { result ≡ end_of bytes.old at (pool_text image.now h made bytes.old start len) }
     ensures bytes { bytes.new ≡ put_of bytes.old at (pool_text image.now h made bytes.old start len) }
 {
-    let Sources {
-        image: first,
-        built,
-    } = sources_of(h, made, start, len);
-    let count = first.count + built.count;
+    let from = sources_of(h, made, start, len);
+    let built = from.built;
+    let count = from.image.count + built.count;
     if !has_room(bytes.len(), at, count) {
         return None;
     }
-    let middle = at + first.count;
-    bytes[at..middle].copy_from_slice(first.of(image));
+    let middle = at + from.image.count;
+    bytes[at..middle].copy_from_slice(from.image.of(image));
     bytes.copy_within(built.from..built.from + built.count, middle);
     Some(at + count)
 }
