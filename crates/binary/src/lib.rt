@@ -76,7 +76,8 @@ fn text_pair(
     join(image, stores, n, start, len, start2, len2)
 }
 
-// "if both are float, all but shifts".
+// "if both are float, all but shifts". Of one shape with `binary_of`, but another case comes after it and another operation stands in it: one function for both
+// would be no plainer.
 fn float_pair(
     image: &Image,
     stores: &mut Stores,
@@ -99,6 +100,7 @@ fn float_pair(
 }
 
 // The operation of node n on both values: "If both operands are signed, all ops".
+#[tactic(auto, unfolding(rules::specs::Building::binary_of))]
 fn binary_of(
     image: &Image,
     stores: &mut Stores,

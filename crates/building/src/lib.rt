@@ -128,6 +128,7 @@ fn put_components(
 {
     let mut end = made;
     let mut items = from..to;
+    // Not each node takes an item, so the loop goes along the chain and asks for an item where one is due.
     let mut i = image.node(n as usize).a;
     while i != 0 {
         let node = image.node(i as usize);

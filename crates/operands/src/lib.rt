@@ -29,14 +29,14 @@ pub fn operand_of(node: Node) -> u16
     }
 }
 
-// "Set, assign and decl give unit".
+// "Set, assign and decl give unit": set's and assign's outcome.
 fn written(x: Result<(), Refused>) -> Outcome
     ensures { result ≡ written_of x }
 {
     Outcome::from(x.map(|()| Value::Unit))
 }
 
-// "A 257th live binding is 10", at the decl or let condition.
+// "A 257th live binding is 10", at the decl or let condition. No conversion of a bool alone: the node and the value go into it.
 fn bound(kept: bool, n: u16, v: Value) -> Outcome
     ensures { result ≡ bound_of kept n v }
 {

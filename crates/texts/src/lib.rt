@@ -18,7 +18,7 @@ use slots::{length_of, start_of};
 use stores::lent::Stores;
 
 // Bytes of a slice: from which on, and how many.
-#[derive(Clone, Copy)]
+#[derive(Clone, Copy, Debug, PartialEq, Eq)]
 pub struct Span {
     pub from: usize,
     pub count: usize,
@@ -35,7 +35,7 @@ impl Span {
 }
 
 // Where the bytes of a text stand: first in the image, then among those that were built.
-#[derive(Clone, Copy)]
+#[derive(Clone, Copy, Debug, PartialEq, Eq)]
 pub struct Sources {
     pub image: Span,
     pub built: Span,
@@ -133,16 +133,14 @@ pub fn put_text(
     ensures end { result ≡ end_of bytes.old at (pool_text image.now.bytes.now image.now.header made bytes.old start len) }
     ensures bytes { bytes.new ≡ put_of bytes.old at (pool_text image.now.bytes.now image.now.header made bytes.old start len) }
 {
-    let Sources {
-        image: first,
-        built,
-    } = sources_of(image.header, made, start, len);
-    let count = first.count + built.count;
+    let from = sources_of(image.header, made, start, len);
+    let built = from.built;
+    let count = from.image.count + built.count;
     if !has_room(bytes.len(), at, count) {
         return None;
     }
-    let middle = at + first.count;
-    bytes[at..middle].copy_from_slice(first.of(image.bytes));
+    let middle = at + from.image.count;
+    bytes[at..middle].copy_from_slice(from.image.of(image.bytes));
     bytes.copy_within(built.from..built.from + built.count, middle);
     Some(at + count)
 }
