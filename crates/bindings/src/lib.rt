@@ -58,6 +58,7 @@ pub fn bound_at(stores: &Stores, i: usize) -> Value
 // Another value for binding i, if there is one.
 pub fn rebind(stores: &mut Stores, i: usize, v: Value)
     ensures store { StoresBecame (λ σ. rebound σ i v) stores.old stores.new }
+    ensures run { stores.new.run ≡ stores.old.run }
     ensures bytes { stores.new.bytes.now ≡ stores.old.bytes.now }
 {
     if i < stores.run.bound as usize {

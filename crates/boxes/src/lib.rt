@@ -50,6 +50,7 @@ pub fn cell_at(stores: &Stores, i: usize) -> Value
 // Another value for cell i, if it is an item or an entry.
 pub fn store_cell(stores: &mut Stores, i: usize, v: Value)
     ensures store { StoresBecame (λ σ. stored_at σ i v) stores.old stores.new }
+    ensures run { stores.new.run ≡ stores.old.run }
     ensures bytes { stores.new.bytes.now ≡ stores.old.bytes.now }
 {
     if i < stores.run.cells as usize && stores.words[1794 + 4 * i] % 4 != 0 {

@@ -4,6 +4,7 @@
 ghost use Rattle.std.specs.Prelude.{◌≡◌, ◌≤◌, ◌<◌, length};
 ghost use Rattle.numbers.specs.Decimal.{put_of, end_of};
 ghost use Rattle.stores.specs.Lent.{StoresMade};
+ghost use Rattle.stores.specs.Stores.{Fits, MakesWords};
 ghost use Rattle.building.specs.Making.{onward_of, IsKind, StoresMadeItems, object_made, EntriesPut, Judging, printed_text, ComponentsPut, template_made};
 
 use boxes::{put_head, take_items};
@@ -14,8 +15,8 @@ use packed::layout::Node;
 use rules::{Refusal, Refused, Value};
 use slots::literals::key_of;
 use stores::lent::Stores;
-use stores::pending::{drop_pending, pending_at};
-use stores::run::MOST_CELLS;
+use stores::pending::{drop_pending, keep_pending, pending_of};
+use stores::run::{MOST_CELLS, Run};
 use texts::{put_bool, put_part, put_text};
 
 // The head of the items, as a vec or a tuple has it.
@@ -65,25 +66,30 @@ fn put_entries(
     Some(end)
 }
 
-// The object at node n: a head, and a cell for each key.
-pub fn make_object(image: &Image, stores: &mut Stores, n: u16, from: u64) -> Result<Value, Refused>
-    requires { IsKind 15 image.now.bytes.now image.now.header n }
-    ensures store { StoresMade result (object_made image.now.bytes.now image.now.header n from) stores.old stores.new }
-    ensures bytes { stores.new.bytes.now ≡ stores.old.bytes.now }
+// The object at node n: a head, and a cell for each key. It has no use for bytes, and asks for none.
+pub fn make_object(
+    image: &Image,
+    words: &mut [u64],
+    run: &mut Run,
+    n: u16,
+    from: u64,
+) -> Result<Value, Refused>
+    requires { IsKind 15 image.now.bytes.now image.now.header n × Fits run.old words.old }
+    ensures { MakesWords result (object_made image.now.bytes.now image.now.header n from) run.old words.old run.new words.new }
 {
     let no_cells = Refused {
         why: Refusal::Cells,
         place: n,
     };
-    if MOST_CELLS <= stores.run.cells {
+    if MOST_CELLS <= run.cells {
         return Err(no_cells);
     }
-    let head = stores.run.cells as usize;
-    put_head(stores.words, head, 0);
-    let to = stores.run.pending as usize;
-    let end = put_entries(image, stores.words, n, head, from as usize, to).ok_or(no_cells)?;
-    stores.run.cells = end as u64;
-    drop_pending(stores, from);
+    let head = run.cells as usize;
+    put_head(words, head, 0);
+    let to = run.pending as usize;
+    let end = put_entries(image, words, n, head, from as usize, to).ok_or(no_cells)?;
+    run.cells = end as u64;
+    keep_pending(run, from);
     Ok(Value::Object(head as u32))
 }
 
@@ -132,13 +138,14 @@ fn put_components(
     let mut i = image.node(n as usize).a;
     while i != 0 {
         let node = image.node(i as usize);
+        // Told by the kind's number: see `kinds`.
         end = if node.kind == 17 {
             put_part(image, key_of(image, node.a), stores.bytes, end)?
         } else {
             let Some(item) = items.next() else {
                 return Some(end);
             };
-            put_value(image, made, pending_at(stores, item), stores.bytes, end)?
+            put_value(image, made, pending_of(stores, item), stores.bytes, end)?
         };
         i = onward(node, i);
     }

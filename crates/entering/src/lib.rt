@@ -17,6 +17,7 @@ use stores::run::Run;
 fn takes_of(kind: u8) -> u64
     ensures { result ≡ cond (takes_more (kind_of kind)) 2 1 }
 {
+    // Told by the kind's number: see `kinds`.
     match kind {
         1..=6 => 2,
         11..=12 => 2,

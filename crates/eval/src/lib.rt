@@ -177,6 +177,7 @@ fn ir_item(
     ensures { StoresAdvance image.now.bytes.now image.now.header (Ctl.items n i depth from) [] (Ctl.items n (onward_from image.now.bytes.now image.now.header i) depth from) [] stores.old stores.new result }
 {
     let item = image.node(i as usize);
+    // Told by the kind's number: see `kinds`.
     if item.kind == 17 {
         return ControlFlow::Continue(());
     }
@@ -236,6 +237,7 @@ fn ir_condition(image: &Image, stores: &mut Stores, c: u16, depth: u16) -> Outco
     ensures { StoresPost image.now.bytes.now image.now.header (Ctl.test c depth) [] stores.old stores.new result }
 {
     let node = image.node(c as usize);
+    // Told by the kind's number: see `kinds`.
     if node.kind != 20 {
         return ir_expr(image, stores, c, depth + 1);
     }

@@ -1,4 +1,5 @@
 // Small images, each for one rule. A line of bytes is a record.
+// The functions list images and nothing else: what they would share is `show`.
 use crate::show::show;
 use std::io;
 

@@ -1,4 +1,5 @@
 // The images of 01's worked programs, those of the list that is proved in rules/specs/Marked.antt: each loads.
+// The functions list images and nothing else: what they would share is `show`.
 use crate::show::show;
 use std::io;
 

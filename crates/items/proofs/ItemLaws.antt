@@ -21,7 +21,7 @@ use Rattle.rules.specs.declared.Refusal.TheVariants.{Pending}
 use Rattle.rules.specs.declared.Refused.{Refused as WasRefused}
 use Rattle.rules.specs.Store.{Store, most_pending, pushed, dropped, as_float}
 use Rattle.rules.specs.Building.{printed, unprinted}
-use Rattle.rules.specs.Machine.{Kind, template, object, kinds, kind_of, items, brk, going, stop, onward}
+use Rattle.rules.specs.Machine.{Kind, template, object, kinds, kind_of, items, going, stop, onward}
 use Rattle.rules.proofs.Going.{to}
 use Rattle.rules.proofs.ItemMoves.{Boxes, vecs as vec_boxes, tuples as tuple_boxes, Accepts, unjudged, prints, item_accepted, too_many_pending, item_unprinted, template_built, items_boxed, entries_boxed}
 use Rattle.rules.proofs.BreakMoves.{break_drops}

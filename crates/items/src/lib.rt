@@ -90,11 +90,12 @@ pub fn build(image: &Image, stores: &mut Stores, n: u16, from: u64) -> Outcome
     ensures { Built image.now.bytes.now image.now.header n from stores.old stores.new result }
 {
     let node = image.node(n as usize);
+    // Told by the kind's number: see `kinds`.
     match node.kind {
         6 => Outcome::from(make_template(image, stores, n, from)),
         13 => Outcome::from(make_items(stores, n, from).map(Value::Vec)),
         14 => Outcome::from(make_items(stores, n, from).map(Value::Tuple)),
-        15 => Outcome::from(make_object(image, stores, n, from)),
+        15 => Outcome::from(make_object(image, stores.words, &mut stores.run, n, from)),
         _ => Outcome::Refused(Refusal::NotConst, n),
     }
 }

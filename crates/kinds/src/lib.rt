@@ -4,6 +4,8 @@
 ghost use Rattle.std.specs.Prelude.{◌≡◌};
 ghost use Rattle.kinds.specs.Kinds.{is_within, is_of, row as row_with, row_of};
 
+// Kinds stay numbers, here and in the crates above: the image has them so, and 01 names the form, in which the records' check and the dispatch match on the kind's number, with ranges.
+
 // The kinds that a reference may go to.
 #[derive(Clone, Copy, Debug, PartialEq, Eq)]
 pub enum Class {

@@ -20,6 +20,7 @@ use targets::{assign_target, set_target};
 pub fn operand_of(node: Node) -> u16
     ensures { result ≡ operand_of (kind_of node.kind) node }
 {
+    // Told by the kind's number: see `kinds`.
     match node.kind {
         3 => node.a,
         4 => node.b,
@@ -52,6 +53,7 @@ fn use_operand(image: &Image, stores: &mut Stores, n: u16, v: Value) -> Outcome
     ensures bytes { stores.new.bytes.now ≡ stores.old.bytes.now }
 {
     let node = image.node(n as usize);
+    // Told by the kind's number: see `kinds`.
     match node.kind {
         3 => bound(declare(stores, node.tag, v), n, Value::Unit),
         4 => written(set_target(image, stores, node.a, v)),

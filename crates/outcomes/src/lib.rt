@@ -8,6 +8,7 @@ ghost use Rattle.outcomes.specs.Outcomes.{got_of};
 use rules::{Refusal, Refused, Value};
 
 // What an expression comes to: a value; a break, by its node and value; a refusal and its place; or the node at which the next take is refused.
+// It derives no equality, since a value may hold a NaN.
 #[derive(Clone, Copy)]
 pub enum Outcome {
     Done(Value),

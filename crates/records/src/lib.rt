@@ -34,6 +34,7 @@ fn function_good(h: Header, f: Function) -> bool
 fn is_text(image: &Image, l: u16) -> bool
     ensures { result ≡ ltb l image.now.header.literals && eqb (literal_at image.now.bytes.now image.now.header l).kind 6 }
 {
+    // Told by the kind's number: see `kinds`.
     l < image.header.literals && image.literal(usize::from(l)).kind == 6
 }
 
@@ -63,6 +64,7 @@ fn fits(image: &Image, role: Role, x: u16) -> bool
 fn tag_role(kind: u8, op: u8) -> Role
     ensures { result ≡ tag_role kind op }
 {
+    // Told by the kind's number: see `kinds`.
     if kind == 20 && op == 0 {
         return Role::Unlisted;
     }
@@ -117,6 +119,7 @@ fn payload_good(image: &Image, stops: &[u32; 1024], l: usize, kind: u8, payload:
     requires { (l < image.now.header.literals) × Stops (image_text image.now.bytes.now image.now.header) stops.now }
     ensures { result ≡ payload_good image.now.bytes.now image.now.header l kind payload }
 {
+    // Told by the kind's number: see `kinds`.
     match kind {
         0 => payload == 0,
         1 => payload <= 1,

@@ -1,12 +1,13 @@
 // Pending items, in the order in which they were evaluated.
-ghost use Rattle.std.specs.Prelude.{◌≡◌, ◌-◌, ◌<◌};
+ghost use Rattle.std.specs.Prelude.{◌≡◌, ◌-◌, ◌≤◌, ◌<◌, length};
 ghost use Rattle.stores.specs.View.{rec_at};
 ghost use Rattle.stores.specs.Pending.{pushed_if_room};
-ghost use Rattle.stores.specs.Stores.{pending_in};
+ghost use Rattle.stores.specs.Stores.{pending_in, BecameRun};
 ghost use Rattle.stores.specs.Lent.{StoresBecame, StoresTried};
 ghost use Rattle.rules.specs.Store.{dropped};
 
 use crate::lent::Stores;
+use crate::run::Run;
 use rules::Value;
 use slots::{put_slot, value_of};
 
@@ -28,11 +29,19 @@ pub fn push(stores: &mut Stores, v: Value) -> bool
 }
 
 // Pending item i.
-pub fn pending_at(stores: &Stores, i: usize) -> Value
+pub fn pending_at(words: &[u64], i: usize) -> Value
+    requires { (i < 512) × (8192 ≤ length words.now) }
+    ensures { result ≡ pending_in (rec_at 768 2 i words.now) }
+{
+    value_of(words[769 + 2 * i], words[768 + 2 * i])
+}
+
+// The same of the stores that a run works on.
+pub fn pending_of(stores: &Stores, i: usize) -> Value
     requires { i < 512 }
     ensures { result ≡ pending_in (rec_at 768 2 i stores.now.words.now) }
 {
-    value_of(stores.words[769 + 2 * i], stores.words[768 + 2 * i])
+    pending_at(stores.words, i)
 }
 
 // How many are pending from `from` on.
@@ -43,13 +52,20 @@ pub fn pending_since(stores: &Stores, from: u64) -> u64
     if from < count { count - from } else { 0 }
 }
 
+// Those past the first `count` given back, where the run's numbers stand alone.
+pub fn keep_pending(run: &mut Run, count: u64)
+    ensures { BecameRun (dropped count) run.old run.new }
+{
+    if count < run.pending {
+        run.pending = count;
+    }
+}
+
 // Those past the first `count` given back.
 pub fn drop_pending(stores: &mut Stores, count: u64)
     ensures store { StoresBecame (dropped count) stores.old stores.new }
     ensures words { stores.new.words.now ≡ stores.old.words.now }
     ensures bytes { stores.new.bytes.now ≡ stores.old.bytes.now }
 {
-    if count < stores.run.pending {
-        stores.run.pending = count;
-    }
+    keep_pending(&mut stores.run, count);
 }

@@ -90,6 +90,7 @@ fn read_most(image: &Image, stores: &Stores, most: u8, t: u16) -> Result<Value, 
         });
     }
     let node = image.node(t as usize);
+    // Told by the kind's number: see `kinds`.
     if node.kind == 21 {
         let place = name_place(stores, t, node.tag)?;
         return read_at(stores, t, place);
@@ -117,6 +118,7 @@ fn target_place(image: &Image, stores: &Stores, t: u16) -> Result<Place, Refused
     ensures { Placed result (λ σ. target_place image.now.bytes.now image.now.header σ t) stores.now.run stores.now.words.now }
 {
     let node = image.node(t as usize);
+    // Told by the kind's number: see `kinds`.
     if node.kind == 21 {
         return name_place(stores, t, node.tag);
     }
@@ -130,6 +132,7 @@ fn target_place(image: &Image, stores: &Stores, t: u16) -> Result<Place, Refused
 // A value put at a place; a field that is absent has none.
 fn put_at(stores: &mut Stores, place: Place, v: Value)
     ensures store { StoresBecame (put_in place v) stores.old stores.new }
+    ensures run { stores.new.run ≡ stores.old.run }
     ensures bytes { stores.new.bytes.now ≡ stores.old.bytes.now }
 {
     match place {
@@ -210,6 +213,7 @@ pub fn assign_target(
 ) -> Result<(), Refused>
     requires { IsTarget image.now.bytes.now image.now.header t }
     ensures store { StoresWrote result (λ σ. target_assigned image.now.bytes.now image.now.header σ n op t v) stores.old stores.new }
+    ensures run { stores.new.run ≡ stores.old.run }
     ensures bytes { stores.new.bytes.now ≡ stores.old.bytes.now }
 {
     let place = target_place(image, stores, t)?;

@@ -77,6 +77,7 @@ fn stop_of(bytes: &[u8], stops: &[u32; 1024], from: usize) -> usize
     ensures { result ≡ stop_of bytes.now from }
 {
     let mut at = from;
+    // It goes on by whole characters, and counts no index.
     while at < bytes.len() {
         let entry = stops[at / 64];
         if entry / 65_536 == at as u32 {
@@ -103,6 +104,7 @@ fn after_tails(bytes: &[u8], start: usize) -> usize
 
 // The stops of a text: for each block of 64 bytes that of the one place where characters that start before it can go on. They are made
 // from the last block down, so that `stop_of` reads about a block of bytes at most, here and later.
+// An array of a fixed size, each place and its stop in one word: no heap, and the callers lend it on.
 pub fn stops_of(bytes: &[u8]) -> [u32; 1024]
     requires { length bytes.now ≤ 65535 }
     ensures { Stops bytes.now result }

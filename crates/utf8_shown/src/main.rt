@@ -21,6 +21,7 @@ fn whole(rt: &impl Print, label: &str, bytes: &[u8]) -> io::Result<()>
 }
 
 // UTF8-1 and UTF8-2.
+// The functions list tries and nothing else: what they would share is `whole` and `part`.
 fn one_and_two(rt: &impl Print) -> io::Result<()> {
     whole(rt, "no bytes", b"")?;
     whole(rt, "00 and 7F", b"\x00\x7F")?;

@@ -39,7 +39,7 @@ returns-in_err-end-2-clause-put c =
     let p = c.loop-i.invariant.printing in
     let kind = ap (λ (d : Node). d.kind) c.node-node.ensures in
     let steps = c.in-Some.ensures.steps in
-    let put = rw (c.pending_at.ensures, c.loop-i.invariant.words, steps.1.1) at c.put_value.ensures in
+    let put = rw (c.pending_of.ensures, c.loop-i.invariant.words, steps.1.1) at c.put_value.ensures in
     rw c.from_residual-in_err-end-2.ensures
     (printing_full _ _ _ _ _ _ _ _ c.requires.0 _ _ _ _ p c.loop-i-test.true _ _ _
     (value_component _ _ _ _ _ _ _ _ c.requires.0 _ _ _ _ p c.loop-i-test.true _ _ (λ e. c.if-node-eq17.false (kind ∙ e))
@@ -68,7 +68,7 @@ loop-i-preserved c =
           })
       | else-node-eq17+in-Some+in_ok-end-2 w ↦
           let steps = w.in-Some.ensures.steps in
-          let put = rw (w.pending_at.ensures, c.loop-i.invariant.words, steps.1.1) at w.put_value.ensures in
+          let put = rw (w.pending_of.ensures, c.loop-i.invariant.words, steps.1.1) at w.put_value.ensures in
           rw (w.stores-is, w.items-is, w.end-is, steps.1.2)
           (record {
             printing =

@@ -24,4 +24,4 @@ returns-in-14 c =
 
 pub returns-in-15 : goal.returns-in-15
 unfolding kind_of kinds
-returns-in-15 c = object_done _ c.node-node.ensures (ap kind_of c.in-15.is) c.make_object.ensures.store c.from-in-15.ensures
+returns-in-15 c = object_done _ c.node-node.ensures (ap kind_of c.in-15.is) (c.make_object.ensures _) c.from-in-15.ensures

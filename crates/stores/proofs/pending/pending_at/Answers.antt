@@ -11,7 +11,7 @@ use Rattle.stores.proofs.pending.pending_at.Goals as goal
 pub returns : goal.returns
 unfolding pending_in
 returns c =
-    let l = c.args.stores.now.words.now in
+    let l = c.args.words.now in
     let i = c.args.i in
     c.value_of.ensures
     ∙ ap₂ value_of
