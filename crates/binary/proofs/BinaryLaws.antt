@@ -14,7 +14,7 @@ use Rattle.numbers.specs.declared.OpError.{OpError}
 use Rattle.numbers.specs.declared.OpError.TheVariants.{Arithmetic as ArithmeticError, NotConst, Unlisted}
 use Rattle.numbers.specs.Ints.{binary_int_of}
 use Rattle.rules.specs.declared.Value.{Value}
-use Rattle.rules.specs.declared.Value.TheVariants.{Signed}
+use Rattle.rules.specs.declared.Value.TheVariants.{Signed, Text}
 use Rattle.rules.specs.declared.Refused.{Refused}
 use Rattle.rules.specs.Store.{Store}
 use Rattle.rules.specs.Building.{of_numbers, binary_of}
@@ -24,7 +24,9 @@ use Rattle.stores.specs.Stores.{made_by, Makes, Fits}
 use Rattle.outcomes.specs.declared.Outcome.{Outcome}
 use Rattle.outcomes.specs.declared.Outcome.TheVariants.{Done}
 use Rattle.outcomes.specs.Outcomes.{got_of}
-use Rattle.binary.specs.Binary.{got_of_numbers}
+use Rattle.binary.specs.Binary.{got_of_numbers, text_pair}
+use Rattle.texts.specs.Text.{joined}
+use borrow.Author.Tests.{eq-eqb}
 use Rattle.outcomes.specs.Post.{After}
 use Rattle.stores.specs.declared.run.Run.{Run}
 use Rattle.outcomes.proofs.Ways.{made_post}
@@ -52,6 +54,12 @@ signeds image h n {x = x} {y = y} d node l r fits =
       undone = λ e z. refl;
       kept = record { fits = fits; room = refl; takes = refl };
     }
+
+-- both are text, and joined
+pub joins : (image : List ℕ) (h : Header) (n : ℕ) {left right : Value} {run : Run} {words bytes : List ℕ} {run' : Run} {words' bytes' : List ℕ} {start len start' len' : ℕ} {got : Result Value Refused} (d : Node) → d ≡ node_at image h n
+    → left ≡ Text start len → right ≡ Text start' len' → d.op ≡ 0 → Makes got (joined image h n start len start' len') run words bytes run' words' bytes'
+    → Makes got (text_pair image h n left right) run words bytes run' words' bytes'
+joins image h n d node l r op m = record { did = rw (l, r, eq-eqb _ _ (rw node at op)) m.did; undone = m.undone; kept = m.kept }
 
 -- ---- after the right operand
 

@@ -73,7 +73,16 @@ fn text_pair(
     if node.op != 0 {
         return Err(not_const(n));
     }
-    join(image, stores, n, start, len, start2, len2)
+    join(
+        image,
+        stores.bytes,
+        &mut stores.run,
+        n,
+        start,
+        len,
+        start2,
+        len2,
+    )
 }
 
 // "if both are float, all but shifts". Of one shape with `binary_of`, but another case comes after it and another operation stands in it: one function for both

@@ -3,7 +3,7 @@ use Rattle.std.specs.Prelude.{ℕ, ◌-◌, ◌≤◌, ◌<◌, ◌≡◌, List,
 use Rattle.packed.specs.declared.layout.Header.{Header}
 use Rattle.rules.specs.declared.Refusal.TheVariants.{Depth}
 use Rattle.rules.specs.Machine.{Ctl, enter_body, work, most_depth}
-use Rattle.stores.specs.Stores.{takes_of}
+use Rattle.stores.specs.Stores.{takes_of, Fits}
 use Rattle.outcomes.specs.declared.Outcome.TheVariants.{Refused, Spent}
 use Rattle.outcomes.specs.declared.Outcome.{Outcome}
 use Rattle.std.specs.declared.ops.ControlFlow.{ControlFlow}
@@ -28,5 +28,6 @@ abbrev pub Entered : List ℕ → Header → Ctl → ℕ → ℕ → Stores → 
 Entered image h t₀ n d s s' r = HasEntered image h t₀ n d s.run s.words.now s.bytes.now s'.run s'.words.now s'.bytes.now r
 
 -- a body takes once, whatever the image
-abbrev pub BodyEntered : ℕ → ℕ → Stores → Stores → ControlFlow Outcome (Unit {0}) → Type 0
-BodyEntered n d s s' r = (image : List ℕ) (h : Header) → Entered image h (enter_body n d) n d s s' r
+abbrev pub BodyEntered : ℕ → ℕ → Run → Run → ControlFlow Outcome (Unit {0}) → Type 0
+BodyEntered n d run run' r =
+    (image : List ℕ) (h : Header) (words bytes : List ℕ) → Fits run words → HasEntered image h (enter_body n d) n d run words bytes run' words bytes r

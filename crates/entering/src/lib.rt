@@ -55,10 +55,8 @@ pub fn enter_expr(image: &Image, stores: &mut Stores, n: u16, depth: u16) -> Con
 }
 
 // "A scope that is an arm's, a default, or a loop's body takes once in all", whatever the image.
-pub fn enter_body(stores: &mut Stores, n: u16, depth: u16) -> ControlFlow<Outcome>
-    ensures store { BodyEntered n depth stores.old stores.new result }
-    ensures words { stores.new.words.now ≡ stores.old.words.now }
-    ensures bytes { stores.new.bytes.now ≡ stores.old.bytes.now }
+pub fn enter_body(run: &mut Run, n: u16, depth: u16) -> ControlFlow<Outcome>
+    ensures { BodyEntered n depth run.old run.new result }
 {
-    take(&mut stores.run, n, depth, 1)
+    take(run, n, depth, 1)
 }

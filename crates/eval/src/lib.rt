@@ -45,7 +45,7 @@ fn ir_body(image: &Image, stores: &mut Stores, n: u16, depth: u16) -> Outcome
     requires { IsNode image.now.bytes.now image.now.header n }
     ensures { StoresPost image.now.bytes.now image.now.header (Ctl.enter_body n depth) [] stores.old stores.new result }
 {
-    let entered = enter_body(stores, n, depth);
+    let entered = enter_body(&mut stores.run, n, depth);
     match entered {
         ControlFlow::Continue(()) => ir_work(image, stores, n, depth),
         ControlFlow::Break(r) => r,

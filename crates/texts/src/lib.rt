@@ -8,14 +8,13 @@ ghost use Rattle.rules.specs.Store.{length_of, same_text, part_text};
 ghost use Rattle.rules.specs.Building.{bool_text};
 ghost use Rattle.rules.specs.Output.{ascending};
 ghost use Rattle.texts.specs.Text.{bytes_of, Spans, first_part, image_part, pool_text, Sourced, joined};
-ghost use Rattle.stores.specs.Lent.{StoresMade};
-ghost use Rattle.stores.specs.Stores.{text_of, MakesText};
+ghost use Rattle.stores.specs.Stores.{MakesText};
 
 use packed::image::Image;
 use packed::layout::{Header, text_at};
 use rules::{Refusal, Refused, Value};
 use slots::{length_of, start_of};
-use stores::lent::Stores;
+use stores::run::Run;
 
 // Bytes of a slice: from which on, and how many.
 #[derive(Clone, Copy, Debug, PartialEq, Eq)]
@@ -154,26 +153,27 @@ pub fn put_bool(b: bool, bytes: &mut [u8], at: usize) -> Option<usize>
     put_bytes(text, bytes, at)
 }
 
-// Two texts joined after what was built before, as the value of node n.
+// Two texts joined after what was built before, as the value of node n. It has no use for words, and asks for none.
 pub fn join(
     image: &Image,
-    stores: &mut Stores,
+    bytes: &mut [u8],
+    run: &mut Run,
     n: u16,
     start: u32,
     len: u16,
     start2: u32,
     len2: u16,
 ) -> Result<Value, Refused>
-    ensures store { StoresMade result (joined image.now.bytes.now image.now.header n start len start2 len2) stores.old stores.new }
-    ensures words { stores.new.words.now ≡ stores.old.words.now }
+    requires { (length bytes.old ≡ 16384) × (run.old.text ≤ 16384) }
+    ensures { MakesText result (joined image.now.bytes.now image.now.header n start len start2 len2) run.old bytes.old run.new bytes.new }
 {
     let no_room = Refused {
         why: Refusal::TextBytes,
         place: n,
     };
-    let made = stores.run.text as usize;
-    let middle = put_text(image, made, start, len, stores.bytes, made).ok_or(no_room)?;
-    let end = put_text(image, made, start2, len2, stores.bytes, middle).ok_or(no_room)?;
-    stores.run.text = end as u64;
+    let made = run.text as usize;
+    let middle = put_text(image, made, start, len, bytes, made).ok_or(no_room)?;
+    let end = put_text(image, made, start2, len2, bytes, middle).ok_or(no_room)?;
+    run.text = end as u64;
     Ok(Value::Text(image.header.text as u32 + made as u32, (end - made) as u16))
 }
