@@ -18,7 +18,7 @@ use Rattle.stores.proofs.Numbers.{fits_takes, takes_set}
 use Rattle.outcomes.specs.declared.Outcome.{Outcome}
 use Rattle.std.specs.declared.ops.ControlFlow.{ControlFlow}
 use Rattle.outcomes.specs.Post.{Starved}
-use Rattle.entering.specs.Entering.{HasEntered, Took, took, deep, spent}
+use Rattle.entering.specs.Entering.{HasEntered, Shallow, Took, took, deep, spent}
 use Rattle.outcomes.proofs.KindLaws.{every_kind}
 use Rattle.stores.specs.declared.run.Run.{Run}
 
@@ -106,6 +106,11 @@ module _ (image : List ℕ) (h : Header) where
               starves = once (enter n d) expression;
             })
 
+pub shallow_of : {n d takes : ℕ} {run run' : Run} {r : ControlFlow Outcome (Unit {0})} → Took n d takes run run' r → Shallow d r
+shallow_of (took fits enough) e = fits
+shallow_of (deep past) e = let z : ◌≡◌ {A = ℕ} 0 1 = cc in absurd (omega arith)
+shallow_of (spent fits few) e = fits
+
 -- ---- what the takes leave: a number of the run that is no part of the store
 
 pub entered_by : {image : List ℕ} {h : Header} {t : Ctl} {n d takes : ℕ} {run run' : Run} {r : ControlFlow Outcome (Unit {0})}
@@ -120,10 +125,10 @@ entered_by {takes = takes} {run = run} entry (took fits enough) {words = words} 
       };
       shallow = λ e. fits;
     }
-entered_by entry (deep past) bytes room =
+entered_by {n = n} {takes = takes} {run = run} entry (deep past) bytes room =
     record {
       advance = record { ways = record { path = λ K. too_deep entry.enters past }; fits = room; room = refl };
-      shallow = λ e. let z : ◌≡◌ {A = ℕ} 0 1 = cc in absurd (omega arith);
+      shallow = shallow_of {n = n} {takes = takes} {run = run} (deep past);
     }
 entered_by {run = run} entry (spent fits few) {words = words} bytes room =
     record {

@@ -19,10 +19,14 @@ pub data Took (n d takes : ℕ) (run : Run) : Run → ControlFlow Outcome (Unit 
   deep : most_depth < d → Took n d takes run run (Break (Refused Depth n))
   spent : d ≤ most_depth → takes_of run < takes → Took n d takes run (set_takes run 0) (Break (Spent n))
 
+-- what is entered is no deeper than the limit
+abbrev pub Shallow : ℕ → ControlFlow Outcome (Unit {0}) → Type 0
+Shallow d r = r ≡ Continue tt → d ≤ most_depth
+
 -- from the control t₀ that enters node n to its work
 pub record HasEntered (image : List ℕ) (h : Header) (t₀ : Ctl) (n d : ℕ) (run : Run) (words bytes : List ℕ) (run' : Run) (words' bytes' : List ℕ) (r : ControlFlow Outcome (Unit {0})) : Type 0 where
   pub advance : Advance image h t₀ [] (work n d) [] run words bytes run' words' bytes' r
-  pub shallow : r ≡ Continue tt → d ≤ most_depth
+  pub shallow : Shallow d r
 
 abbrev pub Entered : List ℕ → Header → Ctl → ℕ → ℕ → Stores → Stores → ControlFlow Outcome (Unit {0}) → Type 0
 Entered image h t₀ n d s s' r = HasEntered image h t₀ n d s.run s.words.now s.bytes.now s'.run s'.words.now s'.bytes.now r

@@ -3,7 +3,7 @@
 
 ghost use Rattle.std.specs.Prelude.{◌≡◌, cond, ◌≤◌};
 ghost use Rattle.rules.specs.Machine.{Ctl, kind_of, takes_more};
-ghost use Rattle.entering.specs.Entering.{Took, Entered, BodyEntered};
+ghost use Rattle.entering.specs.Entering.{Took, Entered, BodyEntered, Shallow};
 
 use outcomes::Outcome;
 use packed::image::Image;
@@ -56,7 +56,8 @@ pub fn enter_expr(image: &Image, stores: &mut Stores, n: u16, depth: u16) -> Con
 
 // "A scope that is an arm's, a default, or a loop's body takes once in all", whatever the image.
 pub fn enter_body(run: &mut Run, n: u16, depth: u16) -> ControlFlow<Outcome>
-    ensures { BodyEntered n depth run.old run.new result }
+    ensures machine { BodyEntered n depth run.old run.new result }
+    ensures shallow { Shallow depth result }
 {
     take(run, n, depth, 1)
 }

@@ -51,15 +51,15 @@ ir_binary-returns t c =
 pub ir_body-ir_work-requires : goal.ir_body-ir_work-requires
 ir_body-ir_work-requires t c =
     let r = c.requires in
-    let en = c.enter_body-entered.ensures c.args.image.now.bytes.now c.args.image.now.header c.args.stores.now.words.now c.args.stores.now.bytes.now c.args.stores.now.fits in
+    let en = c.enter_body-entered.ensures.machine c.args.image.now.bytes.now c.args.image.now.header c.args.stores.now.words.now c.args.stores.now.bytes.now c.args.stores.now.fits in
     let on = c.in-Continue.is in
     (omega (arith, entered_less en body on), (r, en.shallow on))
 
 pub ir_body-returns-in-Continue : goal.ir_body-returns-in-Continue
-ir_body-returns-in-Continue t c = entered_post (c.enter_body-entered.ensures _ _ _ _ c.args.stores.now.fits) c.in-Continue.is c.ir_work.ensures
+ir_body-returns-in-Continue t c = entered_post (c.enter_body-entered.ensures.machine _ _ _ _ c.args.stores.now.fits) c.in-Continue.is c.ir_work.ensures
 
 pub ir_body-returns-in-Break : goal.ir_body-returns-in-Break
-ir_body-returns-in-Break t c = entered_out (c.enter_body-entered.ensures _ _ _ _ c.args.stores.now.fits) c.in-Break.is
+ir_body-returns-in-Break t c = entered_out (c.enter_body-entered.ensures.machine _ _ _ _ c.args.stores.now.fits) c.in-Break.is
 
 pub ir_branches-node-i-requires : goal.ir_branches-node-i-requires
 ir_branches-node-i-requires t c = node_there c.requires.0
@@ -457,4 +457,4 @@ ir_work-returns-in_default-2 t c =
 
 pub ir_body-invariant_of-stores-clause-fits : goal.ir_body-invariant_of-stores-clause-fits
 ir_body-invariant_of-stores-clause-fits t c =
-    (c.enter_body-entered.ensures c.args.image.now.bytes.now c.args.image.now.header c.args.stores.now.words.now c.args.stores.now.bytes.now c.args.stores.now.fits).advance.fits
+    (c.enter_body-entered.ensures.machine c.args.image.now.bytes.now c.args.image.now.header c.args.stores.now.words.now c.args.stores.now.bytes.now c.args.stores.now.fits).advance.fits
