@@ -28,19 +28,40 @@ def squeeze(text):
     return re.sub(r"\s+", " ", text).strip().replace("( ", "(").replace(", )", ")").replace(",)", ")")
 
 
+def signatures(text, indent):
+    """Name and signature with clauses of each public function at this indent: what stands before its body."""
+    lines = text.split("\n")
+    for number, line in enumerate(lines):
+        m = re.match(indent + r"pub (?:extern \"C\" )?fn (\w+)", line)
+        if not m:
+            continue
+        said = []
+        for own in lines[number:]:
+            is_clause = re.match(r"\s*(requires|ensures)\b", own)
+            if own == indent + "{":
+                break
+            one_line = not is_clause and re.match(r"(.*\S)\s*\{(?:[^{}]*\})?$", own)
+            said.append(one_line.group(1) if one_line else own)
+            if one_line or own.rstrip().endswith(";"):
+                break
+        yield m.group(1), squeeze("\n".join(said))
+
+
 def items(commit):
     out = {}
     for crate, kind, stem, text in files(commit):
         if kind == "src":
             for m in re.finditer(r"(?ms)^impl(?:<[^>]*>)?\s+(\w+)(?:<[^>]*>)?\s*\{(.*?)^\}", text):
-                for f in re.finditer(r"(?ms)^    pub fn (\w+)(.*?)^    \{", m.group(2)):
-                    out[crate, "fn", f"{m.group(1)}::{f.group(1)}"] = squeeze(f"pub fn {f.group(1)}{f.group(2)}")
-            for f in re.finditer(r"(?ms)^pub (?:extern \"C\" )?fn (\w+)(.*?)^\{", text):
-                out[crate, "fn", f"{stem.replace('/', '::')}::{f.group(1)}".replace("lib::", "").replace("main::", "")] = squeeze(f"pub fn {f.group(1)}{f.group(2)}")
-            for f in re.finditer(r"(?ms)^pub (enum|struct) (\w+)(.*?)(?:^\}|;\n)", text):
+                for name, said in signatures(m.group(2), "    "):
+                    out[crate, "fn", f"{m.group(1)}::{name}"] = said
+            for name, said in signatures(text, ""):
+                out[crate, "fn", f"{stem.replace('/', '::')}::{name}".replace("lib::", "").replace("main::", "")] = said
+            for f in re.finditer(r"(?m)^pub const (\w+)[^\n]*;", text):
+                out[crate, "type", f.group(1)] = squeeze(f.group(0))
+            for f in re.finditer(r"(?ms)^pub (enum|struct|trait) (\w+)(.*?)(?:^\}|;\n)", text):
                 out[crate, "type", f.group(2)] = squeeze(f"pub {f.group(1)} {f.group(2)}{f.group(3)}") + " }"
         else:
-            text = re.sub(r"(?m)^\s*(--[^\n]*|use [^\n]*|pub mod [^\n]*)$", "", text)
+            text = re.sub(r"(?m)^\s*(--[^\n]*|use [^\n]*|pub mod [^\n]*|module [^\n]* where)$", "\n", text)
             for block in re.split(r"\n\s*\n", text):
                 m = re.match(r"\s*(?:abbrev |unfoldable )?pub (?:record |data )?([^\s:]+)", block)
                 if m:
