@@ -1,5 +1,4 @@
 // A value as bits in the output (01 'Output'). It is gone through twice by the same code: measured, so that a refusal leaves the output as it is, and then written.
-// The image, its header and the stores are five parameters throughout: each `ensures` would read a struct of them as `held.entry.image.now`, which is no plainer.
 #![tactic(auto)]
 
 ghost use Rattle.std.specs.Prelude.{◌≡◌, [], ◌∷◌, ◌+◌, ◌*◌, ◌/◌, ◌^◌, ◌≤◌, ◌<◌, length};
