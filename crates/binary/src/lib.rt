@@ -4,7 +4,7 @@
 ghost use Rattle.std.specs.Prelude.{◌≡◌, [], ◌∷◌};
 ghost use Rattle.rules.specs.Building.{binary_of};
 ghost use Rattle.rules.specs.Machine.{Frame};
-ghost use Rattle.stores.specs.Lent.{StoresMade};
+ghost use Rattle.stores.specs.Lent.{SameSlices, StoresMade};
 ghost use Rattle.outcomes.specs.Outcomes.{IsNode};
 ghost use Rattle.binary.specs.Binary.{place_of, not_const, got_of_numbers, text_pair, float_pair};
 ghost use Rattle.outcomes.specs.Lent.{StoresAfter};
@@ -62,6 +62,7 @@ fn text_pair(
     requires { IsNode image.now.bytes.now image.now.header n }
     ensures store { StoresMade result (text_pair image.now.bytes.now image.now.header n left right) stores.old stores.new }
     ensures words { stores.new.words.now ≡ stores.old.words.now }
+    ensures same { SameSlices stores.old stores.new }
 {
     let Value::Text(start, len) = left else {
         return Err(not_const(n));
@@ -97,6 +98,7 @@ fn float_pair(
     requires { IsNode image.now.bytes.now image.now.header n }
     ensures store { StoresMade result (float_pair image.now.bytes.now image.now.header n left right) stores.old stores.new }
     ensures words { stores.new.words.now ≡ stores.old.words.now }
+    ensures same { SameSlices stores.old stores.new }
 {
     let Value::Float(x) = left else {
         return text_pair(image, stores, n, left, right);
@@ -120,6 +122,7 @@ fn binary_of(
     requires { IsNode image.now.bytes.now image.now.header n }
     ensures store { StoresMade result (binary_of image.now.bytes.now image.now.header n left right) stores.old stores.new }
     ensures words { stores.new.words.now ≡ stores.old.words.now }
+    ensures same { SameSlices stores.old stores.new }
 {
     let Value::Signed(x) = left else {
         return float_pair(image, stores, n, left, right);
@@ -142,6 +145,7 @@ pub fn finish_binary(
     requires { IsNode image.now.bytes.now image.now.header n }
     ensures store { StoresAfter image.now.bytes.now image.now.header (Frame.right_of n left ∷ []) one stores.old stores.new result }
     ensures words { stores.new.words.now ≡ stores.old.words.now }
+    ensures same { SameSlices stores.old stores.new }
 {
     let Outcome::Done(right) = one else {
         return one;

@@ -5,12 +5,12 @@ ghost use Rattle.std.specs.Prelude.{◌≡◌, ◌+◌, ◌-◌, ◌≤◌, ◌<
 ghost use Rattle.rules.specs.Store.{last_of, rebound, declared, opened, emptied, closed};
 ghost use Rattle.bindings.specs.Scopes.{Sought, BoundAt, first_bindings, arguments_bound, broken_out, call_ended, Copied};
 ghost use Rattle.stores.specs.Finding.{found_of};
-ghost use Rattle.stores.specs.Lent.{StoresBecame, StoresTried};
+ghost use Rattle.stores.specs.Lent.{SameSlices, StoresBecame, StoresTried};
 ghost use Rattle.stores.specs.Stores.{bindings_in};
 
 use rules::Value;
 use slots::{put_slot, value_of};
-use stores::lent::Stores;
+use stores::lent::{Shared, Stores};
 use stores::pending::{drop_pending, pending_since};
 
 // The last binding of a name, from number `from` up to `to`.
@@ -39,15 +39,20 @@ fn bound_from(stores: &Stores, name: u16, from: u64) -> Option<usize>
 }
 
 // A name, from the innermost scope outward to the called function's argument scope.
-pub fn look_up(stores: &Stores, name: u16) -> Option<usize>
-    ensures { Sought result stores.now.run stores.now.words.now name }
+pub fn look_up(stores: &Shared, name: u16) -> Option<usize>
+    ensures { Sought result stores.now.run.now stores.now.words.now name }
 {
-    bound_from(stores, name, stores.run.floor)
+    last_of(
+        stores.words,
+        name as u64,
+        stores.run.floor as usize,
+        stores.run.bound as usize,
+    )
 }
 
 // The value of binding i; unit where there is none, as the rules' `bound_at` has it.
-pub fn bound_at(stores: &Stores, i: usize) -> Value
-    ensures { BoundAt result stores.now.run stores.now.words.now i }
+pub fn bound_at(stores: &Shared, i: usize) -> Value
+    ensures { BoundAt result stores.now.run.now stores.now.words.now i }
 {
     if i < stores.run.bound as usize {
         return value_of(stores.words[3 * i + 1], stores.words[3 * i]);
@@ -60,6 +65,7 @@ pub fn rebind(stores: &mut Stores, i: usize, v: Value)
     ensures store { StoresBecame (λ σ. rebound σ i v) stores.old stores.new }
     ensures run { stores.new.run ≡ stores.old.run }
     ensures bytes { stores.new.bytes.now ≡ stores.old.bytes.now }
+    ensures same { SameSlices stores.old stores.new }
 {
     if i < stores.run.bound as usize {
         put_slot(stores.words, 3 * i, v);
@@ -73,6 +79,7 @@ const MOST_BINDINGS: u64 = 256;
 pub fn declare(stores: &mut Stores, name: u16, v: Value) -> bool
     ensures store { StoresTried result (λ σ. declared σ name v) stores.old stores.new }
     ensures bytes { stores.new.bytes.now ≡ stores.old.bytes.now }
+    ensures same { SameSlices stores.old stores.new }
 {
     let innermost = stores.run.scope;
     let count = stores.run.bound;
@@ -95,6 +102,7 @@ pub fn open(stores: &mut Stores)
     ensures store { StoresBecame opened stores.old stores.new }
     ensures words { stores.new.words.now ≡ stores.old.words.now }
     ensures bytes { stores.new.bytes.now ≡ stores.old.bytes.now }
+    ensures same { SameSlices stores.old stores.new }
 {
     stores.run.scope = stores.run.bound;
 }
@@ -104,6 +112,7 @@ fn keep(stores: &mut Stores, count: u64)
     ensures store { StoresBecame (first_bindings count) stores.old stores.new }
     ensures words { stores.new.words.now ≡ stores.old.words.now }
     ensures bytes { stores.new.bytes.now ≡ stores.old.bytes.now }
+    ensures same { SameSlices stores.old stores.new }
 {
     if count < stores.run.bound {
         stores.run.bound = count;
@@ -115,6 +124,7 @@ pub fn empty(stores: &mut Stores)
     ensures store { StoresBecame emptied stores.old stores.new }
     ensures words { stores.new.words.now ≡ stores.old.words.now }
     ensures bytes { stores.new.bytes.now ≡ stores.old.bytes.now }
+    ensures same { SameSlices stores.old stores.new }
 {
     let scope = stores.run.scope;
     keep(stores, scope);
@@ -125,6 +135,7 @@ pub fn close(stores: &mut Stores, scope: u64)
     ensures store { StoresBecame (closed scope) stores.old stores.new }
     ensures words { stores.new.words.now ≡ stores.old.words.now }
     ensures bytes { stores.new.bytes.now ≡ stores.old.bytes.now }
+    ensures same { SameSlices stores.old stores.new }
 {
     let from = stores.run.scope;
     break_out(stores, scope, from);
@@ -135,6 +146,7 @@ pub fn break_out(stores: &mut Stores, scope: u64, from: u64)
     ensures store { StoresBecame (broken_out scope from) stores.old stores.new }
     ensures words { stores.new.words.now ≡ stores.old.words.now }
     ensures bytes { stores.new.bytes.now ≡ stores.old.bytes.now }
+    ensures same { SameSlices stores.old stores.new }
 {
     keep(stores, from);
     stores.run.scope = scope;
@@ -145,6 +157,7 @@ pub fn break_out(stores: &mut Stores, scope: u64, from: u64)
 pub fn bind_arguments(stores: &mut Stores, first: u16, from: u64) -> bool
     ensures store { StoresTried result (arguments_bound first from) stores.old stores.new }
     ensures bytes { stores.new.bytes.now ≡ stores.old.bytes.now }
+    ensures same { SameSlices stores.old stores.new }
 {
     let bound = stores.run.bound;
     let count = pending_since(stores, from);
@@ -185,6 +198,7 @@ pub fn end_call(stores: &mut Stores, scope: u64, floor: u64, pending: u64)
     ensures store { StoresBecame (call_ended scope floor pending) stores.old stores.new }
     ensures words { stores.new.words.now ≡ stores.old.words.now }
     ensures bytes { stores.new.bytes.now ≡ stores.old.bytes.now }
+    ensures same { SameSlices stores.old stores.new }
 {
     close(stores, scope);
     stores.run.floor = floor;

@@ -5,20 +5,20 @@
 ghost use Rattle.std.specs.Prelude.{◌≡◌, ◌+◌, ◌-◌, ◌*◌, ◌≤◌, ◌<◌, length};
 ghost use Rattle.rules.specs.Store.{stored_at};
 ghost use Rattle.boxes.specs.Cells.{CountIn, ItemAt, EntryAt, CellAt, is_entry, items_taken, field_entered, head_words, CopiedItems};
-ghost use Rattle.stores.specs.Lent.{StoresBecame, StoresTried};
+ghost use Rattle.stores.specs.Lent.{SameSlices, StoresBecame, StoresTried};
 ghost use Rattle.std.proofs.lemmas.List.Edits.{sets};
 
 use packed::image::Image;
 use rules::Value;
 use slots::{put_slot, value_of};
-use stores::lent::Stores;
+use stores::lent::{Shared, Stores};
 use stores::pending::{drop_pending, pending_since};
 use stores::run::MOST_CELLS;
 use texts::same_part;
 
 // The count of a vec or tuple; 0 where the cell is no head, as the rules' `count_in` has it.
-pub fn count_in(stores: &Stores, owner: usize) -> u64
-    ensures { CountIn result stores.now.run stores.now.words.now owner }
+pub fn count_in(stores: &Shared, owner: usize) -> u64
+    ensures { CountIn result stores.now.run.now stores.now.words.now owner }
 {
     if owner < stores.run.cells as usize && stores.words[1794 + 4 * owner] % 4 == 0 {
         return stores.words[1792 + 4 * owner];
@@ -27,8 +27,8 @@ pub fn count_in(stores: &Stores, owner: usize) -> u64
 }
 
 // The cell of an item of a vec or tuple.
-pub fn item_at(stores: &Stores, owner: u32, index: u16) -> Option<usize>
-    ensures { ItemAt result stores.now.run stores.now.words.now owner index }
+pub fn item_at(stores: &Shared, owner: u32, index: u16) -> Option<usize>
+    ensures { ItemAt result stores.now.run.now stores.now.words.now owner index }
 {
     let head = owner as usize;
     if (index as u64) < count_in(stores, head) {
@@ -38,8 +38,8 @@ pub fn item_at(stores: &Stores, owner: u32, index: u16) -> Option<usize>
 }
 
 // The value of cell i; unit where it is none or a head, as the rules' `cell_at` has it.
-pub fn cell_at(stores: &Stores, i: usize) -> Value
-    ensures { CellAt result stores.now.run stores.now.words.now i }
+pub fn cell_at(stores: &Shared, i: usize) -> Value
+    ensures { CellAt result stores.now.run.now stores.now.words.now i }
 {
     if i < stores.run.cells as usize && stores.words[1794 + 4 * i] % 4 != 0 {
         return value_of(stores.words[1793 + 4 * i], stores.words[1792 + 4 * i]);
@@ -52,6 +52,7 @@ pub fn store_cell(stores: &mut Stores, i: usize, v: Value)
     ensures store { StoresBecame (λ σ. stored_at σ i v) stores.old stores.new }
     ensures run { stores.new.run ≡ stores.old.run }
     ensures bytes { stores.new.bytes.now ≡ stores.old.bytes.now }
+    ensures same { SameSlices stores.old stores.new }
 {
     if i < stores.run.cells as usize && stores.words[1794 + 4 * i] % 4 != 0 {
         put_slot(stores.words, 1792 + 4 * i, v);
@@ -59,6 +60,7 @@ pub fn store_cell(stores: &mut Stores, i: usize, v: Value)
 }
 
 // Whether cell i is the owner's entry with that key, by content.
+#[inline(always)]
 fn is_entry(image: &Image, words: &[u64], i: usize, owner: u32, key: u64) -> bool
     requires { (i < 1024) × (8192 ≤ length words.now) }
     ensures { result ≡ is_entry image.now.bytes.now image.now.header owner key words.now i }
@@ -68,9 +70,14 @@ fn is_entry(image: &Image, words: &[u64], i: usize, owner: u32, key: u64) -> boo
 }
 
 // The entry of an object with that key.
-pub fn entry_at(image: &Image, stores: &Stores, owner: u32, key: u64) -> Option<usize>
-    ensures { EntryAt result image.now.bytes.now image.now.header stores.now.run stores.now.words.now owner key }
+pub fn entry_at(image: &Image, stores: &Shared, owner: u32, key: u64) -> Option<usize>
+    ensures { EntryAt result image.now.bytes.now image.now.header stores.now.run.now stores.now.words.now owner key }
 {
+    // A copy, so that the header stays in registers while the cells are gone through.
+    let image = &Image {
+        bytes: image.bytes,
+        header: image.header,
+    };
     for i in 0..stores.run.cells as usize {
         if is_entry(image, stores.words, i, owner, key) {
             return Some(i);
@@ -95,6 +102,7 @@ pub fn put_head(words: &mut [u64], i: usize, count: u64)
 pub fn enter_field(stores: &mut Stores, owner: u32, key: u64, v: Value) -> bool
     ensures store { StoresTried result (field_entered owner key v) stores.old stores.new }
     ensures bytes { stores.new.bytes.now ≡ stores.old.bytes.now }
+    ensures same { SameSlices stores.old stores.new }
 {
     let cells = stores.run.cells;
     if MOST_CELLS <= cells {
@@ -127,6 +135,7 @@ fn copy_items(words: &mut [u64], head: usize, from: usize, count: usize)
 pub fn take_items(stores: &mut Stores, from: u64) -> bool
     ensures store { StoresTried result (items_taken from) stores.old stores.new }
     ensures bytes { stores.new.bytes.now ≡ stores.old.bytes.now }
+    ensures same { SameSlices stores.old stores.new }
 {
     let head = stores.run.cells;
     let count = pending_since(stores, from);

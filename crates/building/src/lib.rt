@@ -3,8 +3,8 @@
 
 ghost use Rattle.std.specs.Prelude.{◌≡◌, ◌≤◌, ◌<◌, length};
 ghost use Rattle.numbers.specs.Decimal.{put_of, end_of};
-ghost use Rattle.stores.specs.Lent.{StoresMade};
-ghost use Rattle.stores.specs.Stores.{Fits, MakesWords};
+ghost use Rattle.stores.specs.Lent.{SameSlices};
+ghost use Rattle.stores.specs.Stores.{Fits, Makes, MakesWords};
 ghost use Rattle.building.specs.Making.{onward_of, IsKind, StoresMadeItems, object_made, EntriesPut, Judging, printed_text, ComponentsPut, template_made};
 
 use boxes::{put_head, take_items};
@@ -15,7 +15,7 @@ use packed::layout::Node;
 use rules::{Refusal, Refused, Value};
 use slots::literals::key_of;
 use stores::lent::Stores;
-use stores::pending::{drop_pending, keep_pending, pending_of};
+use stores::pending::{keep_pending, pending_at};
 use stores::run::{MOST_CELLS, Run};
 use texts::{put_bool, put_part, put_text};
 
@@ -23,6 +23,7 @@ use texts::{put_bool, put_part, put_text};
 pub fn make_items(stores: &mut Stores, n: u16, from: u64) -> Result<u32, Refused>
     ensures store { StoresMadeItems result n from stores.old stores.new }
     ensures bytes { stores.new.bytes.now ≡ stores.old.bytes.now }
+    ensures same { SameSlices stores.old stores.new }
 {
     let head = stores.run.cells as u32;
     if take_items(stores, from) {
@@ -121,16 +122,15 @@ fn put_value(image: &Image, made: usize, v: Value, bytes: &mut [u8], at: usize) 
 // The components of template n put after the first `made` bytes, from the pending items `from` up to `to`.
 fn put_components(
     image: &Image,
-    stores: &mut Stores,
+    words: &[u64],
     n: u16,
     from: usize,
     to: usize,
     made: usize,
+    bytes: &mut [u8],
 ) -> Option<usize>
-    requires { IsKind 6 image.now.bytes.now image.now.header n × (to ≤ 512) × (made ≤ length stores.old.bytes.now) }
-    ensures run { stores.new.run ≡ stores.old.run }
-    ensures words { stores.new.words.now ≡ stores.old.words.now }
-    ensures put { ComponentsPut image.now.bytes.now image.now.header stores.old.words.now n from to made result stores.old.bytes.now stores.new.bytes.now }
+    requires { IsKind 6 image.now.bytes.now image.now.header n × (to ≤ 512) × (8192 ≤ length words.now) × (made ≤ length bytes.old) }
+    ensures { ComponentsPut image.now.bytes.now image.now.header words.now n from to made result bytes.old bytes.new }
 {
     let mut end = made;
     let mut items = from..to;
@@ -140,36 +140,38 @@ fn put_components(
         let node = image.node(i as usize);
         // Told by the kind's number: see `kinds`.
         end = if node.kind == 17 {
-            put_part(image, key_of(image, node.a), stores.bytes, end)?
+            put_part(image, key_of(image, node.a), bytes, end)?
         } else {
             let Some(item) = items.next() else {
                 return Some(end);
             };
-            put_value(image, made, pending_of(stores, item), stores.bytes, end)?
+            put_value(image, made, pending_at(words, item), bytes, end)?
         };
         i = onward(node, i);
     }
     Some(end)
 }
 
-// The template at node n: the text of its components, built after what was built before.
+// The template at node n: the text of its components, built after what was built before. It only reads the words, and asks for no more than that.
 pub fn make_template(
     image: &Image,
-    stores: &mut Stores,
+    words: &[u64],
+    bytes: &mut [u8],
+    run: &mut Run,
     n: u16,
     from: u64,
 ) -> Result<Value, Refused>
-    requires { IsKind 6 image.now.bytes.now image.now.header n }
-    ensures store { StoresMade result (template_made image.now.bytes.now image.now.header n from) stores.old stores.new }
-    ensures words { stores.new.words.now ≡ stores.old.words.now }
+    requires { IsKind 6 image.now.bytes.now image.now.header n × Fits run.old words.now × (length bytes.old ≡ 16384) }
+    ensures { Makes result (template_made image.now.bytes.now image.now.header n from) run.old words.now bytes.old run.new words.now bytes.new }
 {
-    let made = stores.run.text as usize;
-    let to = stores.run.pending as usize;
-    let end = put_components(image, stores, n, from as usize, to, made).ok_or(Refused {
+    let made = run.text as usize;
+    let to = run.pending as usize;
+    let put = put_components(image, words, n, from as usize, to, made, bytes);
+    let end = put.ok_or(Refused {
         why: Refusal::TextBytes,
         place: n,
     })?;
-    stores.run.text = end as u64;
-    drop_pending(stores, from);
+    run.text = end as u64;
+    keep_pending(run, from);
     Ok(Value::Text(image.header.text as u32 + made as u32, (end - made) as u16))
 }

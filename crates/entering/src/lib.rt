@@ -4,6 +4,7 @@
 ghost use Rattle.std.specs.Prelude.{◌≡◌, cond, ◌≤◌};
 ghost use Rattle.rules.specs.Machine.{Ctl, kind_of, takes_more};
 ghost use Rattle.entering.specs.Entering.{Took, Entered, BodyEntered, Shallow};
+ghost use Rattle.stores.specs.Lent.{SameSlices};
 
 use outcomes::Outcome;
 use packed::image::Image;
@@ -48,6 +49,7 @@ pub fn enter_expr(image: &Image, stores: &mut Stores, n: u16, depth: u16) -> Con
     ensures store { Entered image.now.bytes.now image.now.header (Ctl.enter n depth) n depth stores.old stores.new result }
     ensures words { stores.new.words.now ≡ stores.old.words.now }
     ensures bytes { stores.new.bytes.now ≡ stores.old.bytes.now }
+    ensures same { SameSlices stores.old stores.new }
 {
     let node = image.node(n as usize);
     let takes = takes_of(node.kind);

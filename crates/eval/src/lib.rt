@@ -4,6 +4,7 @@
 ghost use Rattle.std.specs.Prelude.{◌≡◌, [], ◌∷◌, ◌+◌, ◌≤◌};
 ghost use Rattle.packed.specs.Layout.{node_at};
 ghost use Rattle.rules.specs.Machine.{Ctl, Frame, kind_of, onward as onward_from};
+ghost use Rattle.stores.specs.Lent.{SameSlices};
 ghost use Rattle.outcomes.specs.Post.{Falls};
 ghost use Rattle.outcomes.specs.Lent.{StoresPost, StoresAdvance};
 ghost use Rattle.outcomes.specs.Outcomes.{IsNode};
@@ -30,7 +31,8 @@ use stores::lent::Stores;
 #[cycle(evaluators)]
 pub fn ir_expr(image: &Image, stores: &mut Stores, n: u16, depth: u16) -> Outcome
     requires { IsNode image.now.bytes.now image.now.header n }
-    ensures { StoresPost image.now.bytes.now image.now.header (Ctl.enter n depth) [] stores.old stores.new result }
+    ensures store { StoresPost image.now.bytes.now image.now.header (Ctl.enter n depth) [] stores.old stores.new result }
+    ensures same { SameSlices stores.old stores.new }
 {
     let entered = enter_expr(image, stores, n, depth);
     match entered {
@@ -43,7 +45,8 @@ pub fn ir_expr(image: &Image, stores: &mut Stores, n: u16, depth: u16) -> Outcom
 #[cycle(evaluators)]
 fn ir_body(image: &Image, stores: &mut Stores, n: u16, depth: u16) -> Outcome
     requires { IsNode image.now.bytes.now image.now.header n }
-    ensures { StoresPost image.now.bytes.now image.now.header (Ctl.enter_body n depth) [] stores.old stores.new result }
+    ensures store { StoresPost image.now.bytes.now image.now.header (Ctl.enter_body n depth) [] stores.old stores.new result }
+    ensures same { SameSlices stores.old stores.new }
 {
     let entered = enter_body(&mut stores.run, n, depth);
     match entered {
@@ -56,7 +59,8 @@ fn ir_body(image: &Image, stores: &mut Stores, n: u16, depth: u16) -> Outcome
 #[cycle(evaluators)]
 fn ir_work(image: &Image, stores: &mut Stores, n: u16, depth: u16) -> Outcome
     requires { IsNode image.now.bytes.now image.now.header n × (depth ≤ 128) }
-    ensures { StoresPost image.now.bytes.now image.now.header (Ctl.work n depth) [] stores.old stores.new result }
+    ensures store { StoresPost image.now.bytes.now image.now.header (Ctl.work n depth) [] stores.old stores.new result }
+    ensures same { SameSlices stores.old stores.new }
 {
     let node = image.node(n as usize);
     let kind = node.kind;
@@ -65,9 +69,9 @@ fn ir_work(image: &Image, stores: &mut Stores, n: u16, depth: u16) -> Outcome
         2 => ir_binary(image, stores, n, depth),
         3..=5 => ir_operand(image, stores, n, depth),
         6 | 13..=15 => ir_build(image, stores, n, depth),
-        7 => eval_name(image, stores, n, depth),
-        8 => eval_read(image, stores, n, depth),
-        9 => eval_value(image, stores, n, depth),
+        7 => eval_name(image, &stores.shared(), n, depth),
+        8 => eval_read(image, &stores.shared(), n, depth),
+        9 => eval_value(image, &stores.shared(), n, depth),
         10 => ir_branches(image, stores, n, depth),
         11 => ir_loop(image, stores, n, depth),
         12 => {
@@ -85,7 +89,8 @@ fn ir_work(image: &Image, stores: &mut Stores, n: u16, depth: u16) -> Outcome
 #[cycle(evaluators)]
 fn ir_scope(image: &Image, stores: &mut Stores, n: u16, depth: u16) -> Outcome
     requires { IsNode image.now.bytes.now image.now.header n × (depth ≤ 128) × ((node_at image.now.bytes.now image.now.header n).kind ≡ 1) }
-    ensures { StoresPost image.now.bytes.now image.now.header (Ctl.work n depth) [] stores.old stores.new result }
+    ensures store { StoresPost image.now.bytes.now image.now.header (Ctl.work n depth) [] stores.old stores.new result }
+    ensures same { SameSlices stores.old stores.new }
 {
     let node = image.node(n as usize);
     let scope = stores.run.scope;
@@ -106,7 +111,8 @@ fn ir_scope(image: &Image, stores: &mut Stores, n: u16, depth: u16) -> Outcome
 #[cycle(evaluators)]
 fn ir_last(image: &Image, stores: &mut Stores, n: u16, depth: u16, scope: u64) -> Outcome
     requires { IsNode image.now.bytes.now image.now.header n × (depth ≤ 128) × ((node_at image.now.bytes.now image.now.header n).kind ≡ 1) }
-    ensures { StoresPost image.now.bytes.now image.now.header (Ctl.instructions n 0 depth scope) [] stores.old stores.new result }
+    ensures store { StoresPost image.now.bytes.now image.now.header (Ctl.instructions n 0 depth scope) [] stores.old stores.new result }
+    ensures same { SameSlices stores.old stores.new }
 {
     let node = image.node(n as usize);
     if node.b == 0 {
@@ -120,7 +126,8 @@ fn ir_last(image: &Image, stores: &mut Stores, n: u16, depth: u16, scope: u64) -
 #[cycle(evaluators)]
 fn ir_binary(image: &Image, stores: &mut Stores, n: u16, depth: u16) -> Outcome
     requires { IsNode image.now.bytes.now image.now.header n × (depth ≤ 128) × ((node_at image.now.bytes.now image.now.header n).kind ≡ 2) }
-    ensures { StoresPost image.now.bytes.now image.now.header (Ctl.work n depth) [] stores.old stores.new result }
+    ensures store { StoresPost image.now.bytes.now image.now.header (Ctl.work n depth) [] stores.old stores.new result }
+    ensures same { SameSlices stores.old stores.new }
 {
     let node = image.node(n as usize);
     let first = ir_expr(image, stores, node.a, depth + 1);
@@ -135,7 +142,8 @@ fn ir_binary(image: &Image, stores: &mut Stores, n: u16, depth: u16) -> Outcome
 #[cycle(evaluators)]
 fn ir_operand(image: &Image, stores: &mut Stores, n: u16, depth: u16) -> Outcome
     requires { IsNode image.now.bytes.now image.now.header n × (depth ≤ 128) × Single (node_at image.now.bytes.now image.now.header n).kind × (operand_of (kind_of (node_at image.now.bytes.now image.now.header n).kind) (node_at image.now.bytes.now image.now.header n) ≡ 0 → ⊥) }
-    ensures { StoresPost image.now.bytes.now image.now.header (Ctl.work n depth) [] stores.old stores.new result }
+    ensures store { StoresPost image.now.bytes.now image.now.header (Ctl.work n depth) [] stores.old stores.new result }
+    ensures same { SameSlices stores.old stores.new }
 {
     let operand = operand_of(image.node(n as usize));
     let one = ir_expr(image, stores, operand, depth + 1);
@@ -152,7 +160,8 @@ fn ir_items(
     from: u64,
 ) -> ControlFlow<Outcome>
     requires { IsNode image.now.bytes.now image.now.header n × (depth ≤ 128) × Gathers (node_at image.now.bytes.now image.now.header n).kind }
-    ensures { StoresAdvance image.now.bytes.now image.now.header (Ctl.items n (node_at image.now.bytes.now image.now.header n).a depth from) [] (Ctl.items n 0 depth from) [] stores.old stores.new result }
+    ensures store { StoresAdvance image.now.bytes.now image.now.header (Ctl.items n (node_at image.now.bytes.now image.now.header n).a depth from) [] (Ctl.items n 0 depth from) [] stores.old stores.new result }
+    ensures same { SameSlices stores.old stores.new }
 {
     let mut i = image.node(n as usize).a;
     // A chain, as in `ir_scope`.
@@ -174,7 +183,8 @@ fn ir_item(
     from: u64,
 ) -> ControlFlow<Outcome>
     requires { IsNode image.now.bytes.now image.now.header n × (depth ≤ 128) × IsItem image.now.bytes.now image.now.header n i }
-    ensures { StoresAdvance image.now.bytes.now image.now.header (Ctl.items n i depth from) [] (Ctl.items n (onward_from image.now.bytes.now image.now.header i) depth from) [] stores.old stores.new result }
+    ensures store { StoresAdvance image.now.bytes.now image.now.header (Ctl.items n i depth from) [] (Ctl.items n (onward_from image.now.bytes.now image.now.header i) depth from) [] stores.old stores.new result }
+    ensures same { SameSlices stores.old stores.new }
 {
     let item = image.node(i as usize);
     // Told by the kind's number: see `kinds`.
@@ -190,7 +200,8 @@ fn ir_item(
 #[cycle(evaluators)]
 fn ir_build(image: &Image, stores: &mut Stores, n: u16, depth: u16) -> Outcome
     requires { IsNode image.now.bytes.now image.now.header n × (depth ≤ 128) × Builds (node_at image.now.bytes.now image.now.header n).kind }
-    ensures { StoresPost image.now.bytes.now image.now.header (Ctl.work n depth) [] stores.old stores.new result }
+    ensures store { StoresPost image.now.bytes.now image.now.header (Ctl.work n depth) [] stores.old stores.new result }
+    ensures same { SameSlices stores.old stores.new }
 {
     let from = stores.run.pending;
     let all = ir_items(image, stores, n, depth, from);
@@ -203,7 +214,8 @@ fn ir_build(image: &Image, stores: &mut Stores, n: u16, depth: u16) -> Outcome
 #[cycle(evaluators)]
 fn ir_call(image: &Image, stores: &mut Stores, n: u16, depth: u16) -> Outcome
     requires { IsNode image.now.bytes.now image.now.header n × (depth ≤ 128) × ((node_at image.now.bytes.now image.now.header n).kind ≡ 16) }
-    ensures { StoresPost image.now.bytes.now image.now.header (Ctl.work n depth) [] stores.old stores.new result }
+    ensures store { StoresPost image.now.bytes.now image.now.header (Ctl.work n depth) [] stores.old stores.new result }
+    ensures same { SameSlices stores.old stores.new }
 {
     let from = stores.run.pending;
     let all = ir_items(image, stores, n, depth, from);
@@ -217,7 +229,8 @@ fn ir_call(image: &Image, stores: &mut Stores, n: u16, depth: u16) -> Outcome
 #[cycle(evaluators)]
 fn ir_called(image: &Image, stores: &mut Stores, n: u16, depth: u16, from: u64) -> Outcome
     requires { IsNode image.now.bytes.now image.now.header n × (depth ≤ 128) × ((node_at image.now.bytes.now image.now.header n).kind ≡ 16) }
-    ensures { StoresPost image.now.bytes.now image.now.header (Ctl.items n 0 depth from) [] stores.old stores.new result }
+    ensures store { StoresPost image.now.bytes.now image.now.header (Ctl.items n 0 depth from) [] stores.old stores.new result }
+    ensures same { SameSlices stores.old stores.new }
 {
     let scope = stores.run.scope;
     let floor = stores.run.floor;
@@ -234,7 +247,8 @@ fn ir_called(image: &Image, stores: &mut Stores, n: u16, depth: u16, from: u64) 
 #[cycle(evaluators)]
 fn ir_condition(image: &Image, stores: &mut Stores, c: u16, depth: u16) -> Outcome
     requires { IsNode image.now.bytes.now image.now.header c × (depth ≤ 128) }
-    ensures { StoresPost image.now.bytes.now image.now.header (Ctl.test c depth) [] stores.old stores.new result }
+    ensures store { StoresPost image.now.bytes.now image.now.header (Ctl.test c depth) [] stores.old stores.new result }
+    ensures same { SameSlices stores.old stores.new }
 {
     let node = image.node(c as usize);
     // Told by the kind's number: see `kinds`.
@@ -249,7 +263,8 @@ fn ir_condition(image: &Image, stores: &mut Stores, c: u16, depth: u16) -> Outco
 #[cycle(evaluators)]
 fn ir_arm(image: &Image, stores: &mut Stores, n: u16, i: u16, depth: u16) -> ControlFlow<Outcome>
     requires { IsNode image.now.bytes.now image.now.header i × (depth ≤ 128) × ((node_at image.now.bytes.now image.now.header i).kind ≡ 18) }
-    ensures { StoresAdvance image.now.bytes.now image.now.header (Ctl.arms n i depth) [] (Ctl.arms n (onward_from image.now.bytes.now image.now.header i) depth) [] stores.old stores.new result }
+    ensures store { StoresAdvance image.now.bytes.now image.now.header (Ctl.arms n i depth) [] (Ctl.arms n (onward_from image.now.bytes.now image.now.header i) depth) [] stores.old stores.new result }
+    ensures same { SameSlices stores.old stores.new }
 {
     let arm = image.node(i as usize);
     let scope = stores.run.scope;
@@ -268,7 +283,8 @@ fn ir_arm(image: &Image, stores: &mut Stores, n: u16, i: u16, depth: u16) -> Con
 #[cycle(evaluators)]
 fn ir_taken(image: &Image, stores: &mut Stores, n: u16, depth: u16, scope: u64) -> Outcome
     requires { IsNode image.now.bytes.now image.now.header n }
-    ensures { StoresPost image.now.bytes.now image.now.header (Ctl.enter_body n depth) (Frame.end_of scope ∷ []) stores.old stores.new result }
+    ensures store { StoresPost image.now.bytes.now image.now.header (Ctl.enter_body n depth) (Frame.end_of scope ∷ []) stores.old stores.new result }
+    ensures same { SameSlices stores.old stores.new }
 {
     let one = ir_body(image, stores, n, depth);
     leave_scope(stores, scope, one)
@@ -277,7 +293,8 @@ fn ir_taken(image: &Image, stores: &mut Stores, n: u16, depth: u16, scope: u64) 
 #[cycle(evaluators)]
 fn ir_branches(image: &Image, stores: &mut Stores, n: u16, depth: u16) -> Outcome
     requires { IsNode image.now.bytes.now image.now.header n × (depth ≤ 128) × ((node_at image.now.bytes.now image.now.header n).kind ≡ 10) }
-    ensures { StoresPost image.now.bytes.now image.now.header (Ctl.work n depth) [] stores.old stores.new result }
+    ensures store { StoresPost image.now.bytes.now image.now.header (Ctl.work n depth) [] stores.old stores.new result }
+    ensures same { SameSlices stores.old stores.new }
 {
     let mut i = image.node(n as usize).a;
     // A chain, as in `ir_scope`.
@@ -295,7 +312,8 @@ fn ir_branches(image: &Image, stores: &mut Stores, n: u16, depth: u16) -> Outcom
 #[cycle(evaluators)]
 fn ir_default(image: &Image, stores: &mut Stores, n: u16, depth: u16) -> Outcome
     requires { IsNode image.now.bytes.now image.now.header n × (depth ≤ 128) × ((node_at image.now.bytes.now image.now.header n).kind ≡ 10) }
-    ensures { StoresPost image.now.bytes.now image.now.header (Ctl.arms n 0 depth) [] stores.old stores.new result }
+    ensures store { StoresPost image.now.bytes.now image.now.header (Ctl.arms n 0 depth) [] stores.old stores.new result }
+    ensures same { SameSlices stores.old stores.new }
 {
     let node = image.node(n as usize);
     if node.b == 0 {
@@ -307,7 +325,8 @@ fn ir_default(image: &Image, stores: &mut Stores, n: u16, depth: u16) -> Outcome
 #[cycle(evaluators)]
 fn ir_loop(image: &Image, stores: &mut Stores, n: u16, depth: u16) -> Outcome
     requires { IsNode image.now.bytes.now image.now.header n × (depth ≤ 128) × ((node_at image.now.bytes.now image.now.header n).kind ≡ 11) }
-    ensures { StoresPost image.now.bytes.now image.now.header (Ctl.work n depth) [] stores.old stores.new result }
+    ensures store { StoresPost image.now.bytes.now image.now.header (Ctl.work n depth) [] stores.old stores.new result }
+    ensures same { SameSlices stores.old stores.new }
 {
     let scope = stores.run.scope;
     open(stores);
@@ -329,7 +348,8 @@ fn ir_turn(
     scope: u64,
 ) -> ControlFlow<Outcome>
     requires { IsNode image.now.bytes.now image.now.header n × (depth ≤ 128) × ((node_at image.now.bytes.now image.now.header n).kind ≡ 11) }
-    ensures { StoresAdvance image.now.bytes.now image.now.header (Ctl.turn n depth scope) [] (Ctl.turn n depth scope) [] stores.old stores.new result × Falls result stores.old.run stores.new.run }
+    ensures store { StoresAdvance image.now.bytes.now image.now.header (Ctl.turn n depth scope) [] (Ctl.turn n depth scope) [] stores.old stores.new result × Falls result stores.old.run stores.new.run }
+    ensures same { SameSlices stores.old stores.new }
 {
     let node = image.node(n as usize);
     if node.a == 0 {
@@ -355,7 +375,8 @@ fn ir_pass(
     scope: u64,
 ) -> ControlFlow<Outcome>
     requires { IsNode image.now.bytes.now image.now.header n × (depth ≤ 128) × ((node_at image.now.bytes.now image.now.header n).kind ≡ 11) }
-    ensures { StoresAdvance image.now.bytes.now image.now.header (Ctl.enter_body (node_at image.now.bytes.now image.now.header n).b (depth + 1)) (Frame.body_of n depth scope stores.old.run.scope ∷ []) (Ctl.turn n depth scope) [] stores.old stores.new result × Falls result stores.old.run stores.new.run }
+    ensures store { StoresAdvance image.now.bytes.now image.now.header (Ctl.enter_body (node_at image.now.bytes.now image.now.header n).b (depth + 1)) (Frame.body_of n depth scope stores.old.run.scope ∷ []) (Ctl.turn n depth scope) [] stores.old stores.new result × Falls result stores.old.run stores.new.run }
+    ensures same { SameSlices stores.old stores.new }
 {
     let node = image.node(n as usize);
     let from = stores.run.scope;

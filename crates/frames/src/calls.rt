@@ -5,6 +5,7 @@ ghost use Rattle.rules.specs.Machine.{Frame};
 ghost use Rattle.building.specs.Making.{IsKind};
 ghost use Rattle.outcomes.specs.Lent.{StoresEveryAfter};
 ghost use Rattle.frames.specs.Calls.{CallEntered};
+ghost use Rattle.stores.specs.Lent.{SameSlices};
 
 use bindings::{bind_arguments, end_call};
 use outcomes::Outcome;
@@ -29,6 +30,7 @@ pub fn enter_call(image: &Image, stores: &mut Stores, n: u16, from: u64) -> Cont
     requires { IsKind 16 image.now.bytes.now image.now.header n }
     ensures store { CallEntered image.now.bytes.now image.now.header n from stores.old stores.new result }
     ensures bytes { stores.new.bytes.now ≡ stores.old.bytes.now }
+    ensures same { SameSlices stores.old stores.new }
 {
     let function = function_of(image, n);
     if pending_since(stores, from) != u64::from(function.count) {
@@ -45,6 +47,7 @@ pub fn leave_call(stores: &mut Stores, scope: u64, floor: u64, from: u64, one: O
     ensures store { StoresEveryAfter (Frame.call_of scope floor from ∷ []) one stores.old stores.new result }
     ensures words { stores.new.words.now ≡ stores.old.words.now }
     ensures bytes { stores.new.bytes.now ≡ stores.old.bytes.now }
+    ensures same { SameSlices stores.old stores.new }
 {
     match one {
         Outcome::Done(v) => {

@@ -2,6 +2,7 @@
 ghost use Rattle.std.specs.Prelude.{◌≡◌};
 ghost use Rattle.outcomes.specs.Outcomes.{IsNode, IsBreak};
 ghost use Rattle.frames.specs.Loops.{told_of, BreakSeen, PassOver};
+ghost use Rattle.stores.specs.Lent.{SameSlices};
 
 use bindings::break_out;
 use outcomes::Outcome;
@@ -37,6 +38,7 @@ fn caught(
     ensures store { BreakSeen image.now.bytes.now image.now.header n b v scope from stores.old stores.new result }
     ensures words { stores.new.words.now ≡ stores.old.words.now }
     ensures bytes { stores.new.bytes.now ≡ stores.old.bytes.now }
+    ensures same { SameSlices stores.old stores.new }
 {
     let outer = image.node(n as usize);
     let inner = image.node(b as usize);
@@ -63,6 +65,7 @@ pub fn after_pass(
     ensures store { PassOver image.now.bytes.now image.now.header n scope from one stores.old stores.new result }
     ensures words { stores.new.words.now ≡ stores.old.words.now }
     ensures bytes { stores.new.bytes.now ≡ stores.old.bytes.now }
+    ensures same { SameSlices stores.old stores.new }
 {
     match one {
         Outcome::Done(_) => ControlFlow::Continue(()),

@@ -2,6 +2,7 @@
 ghost use Rattle.std.specs.Prelude.{◌≡◌, [], ◌∷◌};
 ghost use Rattle.rules.specs.Machine.{Frame};
 ghost use Rattle.outcomes.specs.Lent.{StoresEveryAfter};
+ghost use Rattle.stores.specs.Lent.{SameSlices};
 
 use bindings::close;
 use outcomes::Outcome;
@@ -12,6 +13,7 @@ pub fn leave_scope(stores: &mut Stores, scope: u64, one: Outcome) -> Outcome
     ensures store { StoresEveryAfter (Frame.end_of scope ∷ []) one stores.old stores.new result }
     ensures words { stores.new.words.now ≡ stores.old.words.now }
     ensures bytes { stores.new.bytes.now ≡ stores.old.bytes.now }
+    ensures same { SameSlices stores.old stores.new }
 {
     if let Outcome::Done(_) = one {
         close(stores, scope);

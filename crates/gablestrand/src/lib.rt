@@ -4,7 +4,7 @@
 ghost use Rattle.std.specs.Prelude.{◌≡◌, length};
 ghost use Rattle.image.specs.Load.{load_of};
 ghost use Rattle.rules.specs.Runs.{start, Budgeted};
-ghost use Rattle.stores.specs.Lent.{seen};
+ghost use Rattle.stores.specs.Lent.{seen_in};
 ghost use Rattle.gablestrand.specs.Evaluate.{store_words, store_bytes, Decided, Evaluated, Told, length_of};
 ghost use Rattle.gablestrand.specs.Answering.{Finished};
 
@@ -15,7 +15,7 @@ use output::write_value;
 use packed::image::Image;
 use pouring::NoPlace;
 use rules::{Answer, Refusal, Value};
-use stores::lent::Stores;
+use stores::lent::{Shared, Stores};
 use stores::run::Run;
 
 // "Word store at least 8,192 words, byte store at least 16,384"
@@ -24,8 +24,8 @@ pub const WORDS: usize = 8192;
 pub const BYTES: usize = 16384;
 
 // The answer of a run that came to a value: "26, 27 last", at the root.
-fn finish(image: &Image, stores: &Stores, v: Value, steps: u64, out: &mut [u8]) -> Answer
-    ensures { Finished image.now.bytes.now image.now.header (seen stores.now) v steps out.old out.new result }
+fn finish(image: &Image, stores: &Shared, v: Value, steps: u64, out: &mut [u8]) -> Answer
+    ensures { Finished image.now.bytes.now image.now.header (seen_in stores.now) v steps out.old out.new result }
 {
     let root = usize::from(image.header.root);
     match write_value(image, stores, v, out) {
@@ -59,7 +59,7 @@ fn run_image(
     let outcome = ir_expr(image, &mut stores, image.header.root, 1);
     let steps = budget - stores.run.takes;
     match outcome {
-        Outcome::Done(v) => finish(image, &stores, v, steps, out),
+        Outcome::Done(v) => finish(image, &stores.shared(), v, steps, out),
         Outcome::Broke(n, _) => Answer::Refused(Refusal::BreakOutside, usize::from(n), steps),
         Outcome::Refused(why, place) => Answer::Refused(why, usize::from(place), steps),
         Outcome::Spent(place) => Answer::Spent(usize::from(place), steps),

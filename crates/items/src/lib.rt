@@ -7,6 +7,7 @@ ghost use Rattle.rules.specs.Machine.{item_node};
 ghost use Rattle.items.specs.Gathering.{Builds};
 ghost use Rattle.outcomes.specs.Outcomes.{IsNode, got_of};
 ghost use Rattle.items.specs.Items.{Judges, Accepted, ItemOver, Built};
+ghost use Rattle.stores.specs.Lent.{SameSlices};
 
 use building::{judge_component, make_items, make_object, make_template};
 use outcomes::Outcome;
@@ -50,6 +51,7 @@ fn accept(image: &Image, stores: &mut Stores, n: u16, i: u16, v: Value) -> Contr
     requires { IsNode image.now.bytes.now image.now.header n }
     ensures store { Accepted image.now.bytes.now image.now.header n i v stores.old stores.new result }
     ensures bytes { stores.new.bytes.now ≡ stores.old.bytes.now }
+    ensures same { SameSlices stores.old stores.new }
 {
     let node = image.node(n as usize);
     if let Err(why) = judge(node.kind, v) {
@@ -73,6 +75,7 @@ pub fn finish_item(
     requires { IsNode image.now.bytes.now image.now.header n }
     ensures store { ItemOver image.now.bytes.now image.now.header n i from one stores.old stores.new result }
     ensures bytes { stores.new.bytes.now ≡ stores.old.bytes.now }
+    ensures same { SameSlices stores.old stores.new }
 {
     match one {
         Outcome::Done(v) => accept(image, stores, n, i, v),
@@ -87,12 +90,17 @@ pub fn finish_item(
 // Vec, tuple, object and template of the items that are pending from `from` on.
 pub fn build(image: &Image, stores: &mut Stores, n: u16, from: u64) -> Outcome
     requires { IsNode image.now.bytes.now image.now.header n × Builds (node_at image.now.bytes.now image.now.header n).kind }
-    ensures { Built image.now.bytes.now image.now.header n from stores.old stores.new result }
+    ensures store { Built image.now.bytes.now image.now.header n from stores.old stores.new result }
+    ensures same { SameSlices stores.old stores.new }
 {
     let node = image.node(n as usize);
     // Told by the kind's number: see `kinds`.
     match node.kind {
-        6 => Outcome::from(make_template(image, stores, n, from)),
+        6 => {
+            let words = &mut *stores.words;
+            let made = make_template(image, words, stores.bytes, &mut stores.run, n, from);
+            Outcome::from(made)
+        }
         13 => Outcome::from(make_items(stores, n, from).map(Value::Vec)),
         14 => Outcome::from(make_items(stores, n, from).map(Value::Tuple)),
         15 => Outcome::from(make_object(image, stores.words, &mut stores.run, n, from)),

@@ -10,12 +10,12 @@ use outcomes::Outcome;
 use packed::image::Image;
 use rules::Refusal;
 use slots::literals::literal_value;
-use stores::lent::Stores;
+use stores::lent::Shared;
 use targets::get_target;
 
-pub fn eval_name(image: &Image, stores: &Stores, n: u16, depth: u16) -> Outcome
+pub fn eval_name(image: &Image, stores: &Shared, n: u16, depth: u16) -> Outcome
     requires { IsKind 7 image.now.bytes.now image.now.header n }
-    ensures { Gives image.now.bytes.now image.now.header (Ctl.work n depth) stores.now.run stores.now.words.now result }
+    ensures { Gives image.now.bytes.now image.now.header (Ctl.work n depth) stores.now.run.now stores.now.words.now result }
 {
     let node = image.node(n as usize);
     match look_up(stores, node.tag) {
@@ -24,17 +24,17 @@ pub fn eval_name(image: &Image, stores: &Stores, n: u16, depth: u16) -> Outcome
     }
 }
 
-pub fn eval_read(image: &Image, stores: &Stores, n: u16, depth: u16) -> Outcome
+pub fn eval_read(image: &Image, stores: &Shared, n: u16, depth: u16) -> Outcome
     requires { IsKind 8 image.now.bytes.now image.now.header n }
-    ensures { Gives image.now.bytes.now image.now.header (Ctl.work n depth) stores.now.run stores.now.words.now result }
+    ensures { Gives image.now.bytes.now image.now.header (Ctl.work n depth) stores.now.run.now stores.now.words.now result }
 {
     let node = image.node(n as usize);
     Outcome::from(get_target(image, stores, node.a))
 }
 
-pub fn eval_value(image: &Image, stores: &Stores, n: u16, depth: u16) -> Outcome
+pub fn eval_value(image: &Image, stores: &Shared, n: u16, depth: u16) -> Outcome
     requires { IsKind 9 image.now.bytes.now image.now.header n }
-    ensures { Gives image.now.bytes.now image.now.header (Ctl.work n depth) stores.now.run stores.now.words.now result }
+    ensures { Gives image.now.bytes.now image.now.header (Ctl.work n depth) stores.now.run.now stores.now.words.now result }
 {
     let node = image.node(n as usize);
     Outcome::Done(literal_value(image, node.a))

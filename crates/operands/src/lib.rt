@@ -7,6 +7,7 @@ ghost use Rattle.rules.specs.Machine.{Ctl, Frame, kind_of};
 ghost use Rattle.outcomes.specs.Lent.{StoresPost, StoresAfter};
 ghost use Rattle.operands.specs.Waiting.{waiting, operand_of};
 ghost use Rattle.outcomes.specs.Outcomes.{IsNode, written_of, bound_of};
+ghost use Rattle.stores.specs.Lent.{SameSlices};
 
 use bindings::declare;
 use outcomes::Outcome;
@@ -51,6 +52,7 @@ fn use_operand(image: &Image, stores: &mut Stores, n: u16, v: Value) -> Outcome
     requires { IsNode image.now.bytes.now image.now.header n }
     ensures store { StoresPost image.now.bytes.now image.now.header (Ctl.ret v) (waiting (kind_of (node_at image.now.bytes.now image.now.header n).kind) n) stores.old stores.new result }
     ensures bytes { stores.new.bytes.now ≡ stores.old.bytes.now }
+    ensures same { SameSlices stores.old stores.new }
 {
     let node = image.node(n as usize);
     // Told by the kind's number: see `kinds`.
@@ -68,6 +70,7 @@ pub fn finish_operand(image: &Image, stores: &mut Stores, n: u16, one: Outcome) 
     requires { IsNode image.now.bytes.now image.now.header n }
     ensures store { StoresAfter image.now.bytes.now image.now.header (waiting (kind_of (node_at image.now.bytes.now image.now.header n).kind) n) one stores.old stores.new result }
     ensures bytes { stores.new.bytes.now ≡ stores.old.bytes.now }
+    ensures same { SameSlices stores.old stores.new }
 {
     match one {
         Outcome::Done(v) => use_operand(image, stores, n, v),
@@ -80,6 +83,7 @@ pub fn finish_let(image: &Image, stores: &mut Stores, c: u16, one: Outcome) -> O
     requires { IsNode image.now.bytes.now image.now.header c }
     ensures store { StoresAfter image.now.bytes.now image.now.header (Frame.let_of c ∷ []) one stores.old stores.new result }
     ensures bytes { stores.new.bytes.now ≡ stores.old.bytes.now }
+    ensures same { SameSlices stores.old stores.new }
 {
     let Outcome::Done(v) = one else {
         return one;

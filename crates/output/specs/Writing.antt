@@ -10,8 +10,8 @@ use Rattle.rules.specs.Store.{head, Store, text_of, count_in, value_in}
 use Rattle.rules.specs.Output.{Piece, put, Encoded, bits, nested, full, bytes_for, bool_bit, length_and_bytes, items_from, sorted_entries, entry_pieces, encoded}
 use Rattle.rules.specs.Runs.{out_of, value_encoded}
 use Rattle.stores.specs.Stores.{store_of}
-use Rattle.stores.specs.declared.lent.Stores.{Stores}
-use Rattle.stores.specs.Lent.{seen}
+use Rattle.stores.specs.declared.lent.Shared.{Shared}
+use Rattle.stores.specs.Lent.{seen_in}
 use Rattle.ordered.specs.Ordered.{key_text}
 use Rattle.pouring.specs.declared.Spot.{Spot}
 use Rattle.pouring.specs.declared.NoPlace.{NoPlace}
@@ -56,12 +56,12 @@ pub record Writes (image : List ℕ) (h : Header) (σ : Store) (allowance : ℕ)
   pub is : Passed image h σ (encoded image h σ allowance) writing (bits_before s) ps out out' r
 
 -- both of what is passed
-abbrev pub ValueWritten : Image → Stores → Value → ℕ → Bool → Spot → List ℕ → List ℕ → Result Spot NoPlace → Type 0
-ValueWritten image stores v allowance writing s out out' r = Encodes image.bytes.now image.header stores.run stores.words.now stores.bytes.now v allowance writing s out out' r
+abbrev pub ValueWritten : Image → Shared → Value → ℕ → Bool → Spot → List ℕ → List ℕ → Result Spot NoPlace → Type 0
+ValueWritten image stores v allowance writing s out out' r = Encodes image.bytes.now image.header stores.run.now stores.words.now stores.bytes.now v allowance writing s out out' r
 
-abbrev pub PiecesWritten : Image → Stores → (List ℕ → Header → Store → List Piece) → ℕ → Bool → Spot → List ℕ → List ℕ → Result Spot NoPlace → Type 0
+abbrev pub PiecesWritten : Image → Shared → (List ℕ → Header → Store → List Piece) → ℕ → Bool → Spot → List ℕ → List ℕ → Result Spot NoPlace → Type 0
 PiecesWritten image stores ps allowance writing s out out' r =
-    Writes image.bytes.now image.header (seen stores) allowance writing s (ps image.bytes.now image.header (seen stores)) out out' r
+    Writes image.bytes.now image.header (seen_in stores) allowance writing s (ps image.bytes.now image.header (seen_in stores)) out out' r
 
 -- what was written of an encoding: so many bytes, or nothing and why
 abbrev pub written_of : Encoded → Result ℕ NoPlace

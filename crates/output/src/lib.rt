@@ -6,7 +6,7 @@ ghost use Rattle.boxes.specs.Cells.{CellAt};
 ghost use Rattle.rules.specs.Output.{length_and_bytes, put as piece};
 ghost use Rattle.rules.specs.Store.{text_of};
 ghost use Rattle.texts.specs.Text.{pool_text};
-ghost use Rattle.stores.specs.Lent.{seen};
+ghost use Rattle.stores.specs.Lent.{seen_in};
 ghost use Rattle.pouring.specs.Pouring.{IsPlace, Puts, bits_before};
 ghost use Rattle.output.specs.Writing.{head_pieces, item_pieces, entry_piece, object_pieces, ValueWritten, PiecesWritten, Wrote};
 
@@ -17,7 +17,7 @@ use packed::image::Image;
 use pouring::{NoPlace, Spot, put, put_bytes};
 use rules::Value;
 use slots::{length_of, start_of};
-use stores::lent::Stores;
+use stores::lent::Shared;
 use texts::sources_of;
 
 // A kind, and a number of some width.
@@ -60,7 +60,7 @@ fn write_text(
 // Text or bytes with their kind.
 fn write_string(
     image: &Image,
-    stores: &Stores,
+    stores: &Shared,
     kind: u64,
     start: u32,
     len: u16,
@@ -69,7 +69,7 @@ fn write_string(
     spot: Spot,
 ) -> Result<Spot, NoPlace>
     requires { IsPlace spot out.old }
-    ensures { Puts writing (bits_before spot) (piece 4 kind ∷ length_and_bytes (text_of image.now.bytes.now image.now.header (seen stores.now) start len)) out.old out.new result }
+    ensures { Puts writing (bits_before spot) (piece 4 kind ∷ length_and_bytes (text_of image.now.bytes.now image.now.header (seen_in stores.now) start len)) out.old out.new result }
 {
     let spot = put(out, writing, spot, 4, kind)?;
     let made = stores.run.text as usize;
@@ -79,14 +79,14 @@ fn write_string(
 // What stands before the values within a value: all of it where it holds none.
 fn write_head(
     image: &Image,
-    stores: &Stores,
+    stores: &Shared,
     v: Value,
     out: &mut [u8],
     writing: bool,
     spot: Spot,
 ) -> Result<Spot, NoPlace>
     requires { IsPlace spot out.old }
-    ensures { Puts writing (bits_before spot) (head_pieces image.now.bytes.now image.now.header (seen stores.now) v) out.old out.new result }
+    ensures { Puts writing (bits_before spot) (head_pieces image.now.bytes.now image.now.header (seen_in stores.now) v) out.old out.new result }
 {
     match v {
         Value::Unit => put(out, writing, spot, 4, 0),
@@ -104,9 +104,9 @@ fn write_head(
 }
 
 // The value of the i-th item after a head; unit past the last cell.
-fn item_value(stores: &Stores, first: usize, i: u64) -> Value
+fn item_value(stores: &Shared, first: usize, i: u64) -> Value
     requires { first ≤ 4294967296 }
-    ensures { CellAt result stores.now.run stores.now.words.now (first + i) }
+    ensures { CellAt result stores.now.run.now stores.now.words.now (first + i) }
 {
     if 1024 <= i {
         return Value::Unit;
@@ -118,7 +118,7 @@ fn item_value(stores: &Stores, first: usize, i: u64) -> Value
 #[cycle(writers)]
 fn write_any(
     image: &Image,
-    stores: &Stores,
+    stores: &Shared,
     v: Value,
     allowance: u32,
     out: &mut [u8],
@@ -146,7 +146,7 @@ fn write_any(
 #[cycle(writers)]
 fn write_items(
     image: &Image,
-    stores: &Stores,
+    stores: &Shared,
     owner: u32,
     allowance: u32,
     out: &mut [u8],
@@ -170,7 +170,7 @@ fn write_items(
 #[cycle(writers)]
 fn write_entry(
     image: &Image,
-    stores: &Stores,
+    stores: &Shared,
     i: usize,
     allowance: u32,
     out: &mut [u8],
@@ -199,7 +199,7 @@ fn write_entry(
 #[cycle(writers)]
 fn write_entries(
     image: &Image,
-    stores: &Stores,
+    stores: &Shared,
     owner: u32,
     allowance: u32,
     out: &mut [u8],
@@ -236,11 +236,11 @@ fn length_at(spot: Spot) -> usize
 // Writes a value, and tells how many bytes it takes, or why it has no place there. Where it has none, the output stays as it is.
 pub fn write_value(
     image: &Image,
-    stores: &Stores,
+    stores: &Shared,
     v: Value,
     out: &mut [u8],
 ) -> Result<usize, NoPlace>
-    ensures { Wrote image.now.bytes.now image.now.header (seen stores.now) v out.old out.new result }
+    ensures { Wrote image.now.bytes.now image.now.header (seen_in stores.now) v out.old out.new result }
 {
     let start = Spot { bytes: 0, bits: 0 };
     write_any(image, stores, v, 64, out, false, start)?;

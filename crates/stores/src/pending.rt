@@ -3,7 +3,7 @@ ghost use Rattle.std.specs.Prelude.{◌≡◌, ◌-◌, ◌≤◌, ◌<◌, leng
 ghost use Rattle.stores.specs.View.{rec_at};
 ghost use Rattle.stores.specs.Pending.{pushed_if_room};
 ghost use Rattle.stores.specs.Stores.{pending_in, BecameRun};
-ghost use Rattle.stores.specs.Lent.{StoresBecame, StoresTried};
+ghost use Rattle.stores.specs.Lent.{SameSlices, StoresBecame, StoresTried};
 ghost use Rattle.rules.specs.Store.{dropped};
 
 use crate::lent::Stores;
@@ -18,6 +18,7 @@ const MOST_PENDING: u64 = 512;
 pub fn push(stores: &mut Stores, v: Value) -> bool
     ensures store { StoresTried result (pushed_if_room v) stores.old stores.new }
     ensures bytes { stores.new.bytes.now ≡ stores.old.bytes.now }
+    ensures same { SameSlices stores.old stores.new }
 {
     let count = stores.run.pending;
     if MOST_PENDING <= count {
@@ -66,6 +67,7 @@ pub fn drop_pending(stores: &mut Stores, count: u64)
     ensures store { StoresBecame (dropped count) stores.old stores.new }
     ensures words { stores.new.words.now ≡ stores.old.words.now }
     ensures bytes { stores.new.bytes.now ≡ stores.old.bytes.now }
+    ensures same { SameSlices stores.old stores.new }
 {
     keep_pending(&mut stores.run, count);
 }

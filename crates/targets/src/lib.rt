@@ -5,7 +5,7 @@ ghost use Rattle.std.specs.Prelude.{◌≡◌, ◌<◌, Ok};
 ghost use Rattle.packed.specs.Layout.{node_at};
 ghost use Rattle.rules.specs.Store.{sought, item_at, as_object, as_items};
 ghost use Rattle.rules.specs.Targets.{name_place, field_place, index_in, index_place, read_at, read_target, target_read, target_place, target_set, target_assigned};
-ghost use Rattle.stores.specs.Lent.{StoresBecame};
+ghost use Rattle.stores.specs.Lent.{SameSlices, StoresBecame};
 ghost use Rattle.targets.specs.Reading.{IsTarget, Placed, Gets, assigned_value, put_in, field_set, StoresWrote};
 
 use bindings::{bound_at, look_up, rebind};
@@ -14,10 +14,10 @@ use numbers::{OpError, assign_int};
 use packed::image::Image;
 use rules::{Place, Refusal, Refused, Value};
 use slots::literals::key_of;
-use stores::lent::Stores;
+use stores::lent::{Shared, Stores};
 
-fn name_place(stores: &Stores, at: u16, name: u16) -> Result<Place, Refused>
-    ensures { Placed result (λ σ. name_place at (sought σ name)) stores.now.run stores.now.words.now }
+fn name_place(stores: &Shared, at: u16, name: u16) -> Result<Place, Refused>
+    ensures { Placed result (λ σ. name_place at (sought σ name)) stores.now.run.now stores.now.words.now }
 {
     match look_up(stores, name) {
         Some(i) => Ok(Place::Binding(i)),
@@ -29,9 +29,9 @@ fn name_place(stores: &Stores, at: u16, name: u16) -> Result<Place, Refused>
 }
 
 // The field of v whose key is literal l.
-fn field_place(image: &Image, stores: &Stores, at: u16, l: u16, v: Value) -> Result<Place, Refused>
+fn field_place(image: &Image, stores: &Shared, at: u16, l: u16, v: Value) -> Result<Place, Refused>
     requires { (l < image.now.header.literals) }
-    ensures { Placed result (λ σ. field_place image.now.bytes.now image.now.header σ at l (as_object v)) stores.now.run stores.now.words.now }
+    ensures { Placed result (λ σ. field_place image.now.bytes.now image.now.header σ at l (as_object v)) stores.now.run.now stores.now.words.now }
 {
     let Value::Object(owner) = v else {
         return Err(Refused {
@@ -46,8 +46,8 @@ fn field_place(image: &Image, stores: &Stores, at: u16, l: u16, v: Value) -> Res
 }
 
 // The item of v of that index.
-fn index_place(stores: &Stores, at: u16, index: u16, v: Value) -> Result<Place, Refused>
-    ensures { Placed result (λ σ. index_place σ at index (as_items v)) stores.now.run stores.now.words.now }
+fn index_place(stores: &Shared, at: u16, index: u16, v: Value) -> Result<Place, Refused>
+    ensures { Placed result (λ σ. index_place σ at index (as_items v)) stores.now.run.now stores.now.words.now }
 {
     let (Value::Vec(owner) | Value::Tuple(owner)) = v else {
         return Err(Refused {
@@ -65,8 +65,8 @@ fn index_place(stores: &Stores, at: u16, index: u16, v: Value) -> Result<Place, 
 }
 
 // What stands at a place that is read: an absent field is 21.
-fn read_at(stores: &Stores, at: u16, place: Place) -> Result<Value, Refused>
-    ensures { Gets result (λ σ. read_at σ at (Ok place)) stores.now.run stores.now.words.now }
+fn read_at(stores: &Shared, at: u16, place: Place) -> Result<Value, Refused>
+    ensures { Gets result (λ σ. read_at σ at (Ok place)) stores.now.run.now stores.now.words.now }
 {
     match place {
         Place::Binding(i) => Ok(bound_at(stores, i)),
@@ -79,9 +79,9 @@ fn read_at(stores: &Stores, at: u16, place: Place) -> Result<Value, Refused>
 }
 
 // The target at node t, of fewer than `most` parts.
-fn read_most(image: &Image, stores: &Stores, most: u8, t: u16) -> Result<Value, Refused>
+fn read_most(image: &Image, stores: &Shared, most: u8, t: u16) -> Result<Value, Refused>
     requires { IsTarget image.now.bytes.now image.now.header t }
-    ensures { Gets result (λ σ. read_target image.now.bytes.now image.now.header σ most t) stores.now.run stores.now.words.now }
+    ensures { Gets result (λ σ. read_target image.now.bytes.now image.now.header σ most t) stores.now.run.now stores.now.words.now }
 {
     if most == 0 {
         return Err(Refused {
@@ -105,17 +105,17 @@ fn read_most(image: &Image, stores: &Stores, most: u8, t: u16) -> Result<Value, 
 }
 
 // What the target at node t gives.
-pub fn get_target(image: &Image, stores: &Stores, t: u16) -> Result<Value, Refused>
+pub fn get_target(image: &Image, stores: &Shared, t: u16) -> Result<Value, Refused>
     requires { IsTarget image.now.bytes.now image.now.header t }
-    ensures { Gets result (λ σ. target_read image.now.bytes.now image.now.header σ t) stores.now.run stores.now.words.now }
+    ensures { Gets result (λ σ. target_read image.now.bytes.now image.now.header σ t) stores.now.run.now stores.now.words.now }
 {
     read_most(image, stores, 65, t)
 }
 
 // Where the target at node t stands when it is written: what stands before its last part is read.
-fn target_place(image: &Image, stores: &Stores, t: u16) -> Result<Place, Refused>
+fn target_place(image: &Image, stores: &Shared, t: u16) -> Result<Place, Refused>
     requires { IsTarget image.now.bytes.now image.now.header t }
-    ensures { Placed result (λ σ. target_place image.now.bytes.now image.now.header σ t) stores.now.run stores.now.words.now }
+    ensures { Placed result (λ σ. target_place image.now.bytes.now image.now.header σ t) stores.now.run.now stores.now.words.now }
 {
     let node = image.node(t as usize);
     // Told by the kind's number: see `kinds`.
@@ -134,6 +134,7 @@ fn put_at(stores: &mut Stores, place: Place, v: Value)
     ensures store { StoresBecame (put_in place v) stores.old stores.new }
     ensures run { stores.new.run ≡ stores.old.run }
     ensures bytes { stores.new.bytes.now ≡ stores.old.bytes.now }
+    ensures same { SameSlices stores.old stores.new }
 {
     match place {
         Place::Binding(i) => rebind(stores, i, v),
@@ -153,6 +154,7 @@ fn set_field(
     requires { IsTarget image.now.bytes.now image.now.header t × ((node_at image.now.bytes.now image.now.header t).kind ≡ 22) }
     ensures store { StoresWrote result (field_set image.now.bytes.now image.now.header t owner v) stores.old stores.new }
     ensures bytes { stores.new.bytes.now ≡ stores.old.bytes.now }
+    ensures same { SameSlices stores.old stores.new }
 {
     let node = image.node(t as usize);
     if enter_field(stores, owner, key_of(image, node.b), v) {
@@ -169,8 +171,9 @@ pub fn set_target(image: &Image, stores: &mut Stores, t: u16, v: Value) -> Resul
     requires { IsTarget image.now.bytes.now image.now.header t }
     ensures store { StoresWrote result (λ σ. target_set image.now.bytes.now image.now.header σ t v) stores.old stores.new }
     ensures bytes { stores.new.bytes.now ≡ stores.old.bytes.now }
+    ensures same { SameSlices stores.old stores.new }
 {
-    let place = target_place(image, stores, t)?;
+    let place = target_place(image, &stores.shared(), t)?;
     if let Place::Absent(owner) = place {
         return set_field(image, stores, t, owner, v);
     }
@@ -215,9 +218,10 @@ pub fn assign_target(
     ensures store { StoresWrote result (λ σ. target_assigned image.now.bytes.now image.now.header σ n op t v) stores.old stores.new }
     ensures run { stores.new.run ≡ stores.old.run }
     ensures bytes { stores.new.bytes.now ≡ stores.old.bytes.now }
+    ensures same { SameSlices stores.old stores.new }
 {
-    let place = target_place(image, stores, t)?;
-    let old = read_at(stores, t, place)?;
+    let place = target_place(image, &stores.shared(), t)?;
+    let old = read_at(&stores.shared(), t, place)?;
     let new = assign_value(n, op, old, v)?;
     put_at(stores, place, new);
     Ok(())

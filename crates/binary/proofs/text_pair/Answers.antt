@@ -1,5 +1,4 @@
 -- `joins`, for the words that stand by.
-use Rattle.std.proofs.Common.{◌∙◌}
 use Rattle.binary.proofs.BinaryLaws.{joins}
 use Rattle.binary.proofs.text_pair.Goals as goal
 

@@ -5,10 +5,8 @@ use Rattle.building.proofs.put_components.Given as goal
 
 abbrev pub invariant-loop-i : goal.invariant-loop-i
 invariant-loop-i l = record {
-  printing : Printing l.image.bytes.now l.image.header l.fn.stores.words.now l.n l.from l.to l.made l.fn.stores.bytes.now l.stores.bytes.now l.end l.items.start l.i;
+  printing : Printing l.image.bytes.now l.image.header l.words l.n l.from l.to l.made l.fn.bytes l.bytes l.end l.items.start l.i;
   last : l.items.end ≡ l.to;
-  run : l.stores.run ≡ l.fn.stores.run;
-  words : l.stores.words.now ≡ l.fn.stores.words.now;
 }
 
 -- what is left of the chain

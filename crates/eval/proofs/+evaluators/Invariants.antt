@@ -1,6 +1,7 @@
 -- A call's measure is sixteen times the takes that are left, and a rank below sixteen: an evaluator calls those of a lower rank at the same takes, and any after a take.
 use Rattle.std.proofs.Common.{◌+◌, ◌*◌}
 use Rattle.rules.specs.Machine.{arms, items, turn, instructions}
+use Rattle.stores.specs.Lent.{SameSlices}
 use Rattle.stores.specs.Stores.{takes_of}
 use Rattle.building.proofs.ChainLaws.{left_of}
 use Rattle.eval.proofs.ChainLoop.{AtChain, AtTurn}
@@ -67,28 +68,37 @@ abbrev pub decreases-ir_work : goal.decreases-ir_work
 decreases-ir_work l = 16 * takes_of l.stores.now.run + 9
 
 abbrev pub invariant-ir_branches-loop-i : goal.invariant-ir_branches-loop-i
-invariant-ir_branches-loop-i l =
-    AtChain l.image.bytes.now l.image.header l.n (arms l.n l.initial.i l.depth) (arms l.n l.i l.depth) l.i l.initial.stores.run l.initial.stores.words.now l.initial.stores.bytes.now l.stores.run l.stores.words.now l.stores.bytes.now
+invariant-ir_branches-loop-i l = record {
+  at : AtChain l.image.bytes.now l.image.header l.n (arms l.n l.initial.i l.depth) (arms l.n l.i l.depth) l.i l.initial.stores.run l.initial.stores.words.now l.initial.stores.bytes.now l.stores.run l.stores.words.now l.stores.bytes.now;
+  same : SameSlices l.fn.stores l.stores;
+}
 
 abbrev pub decreases-ir_branches-loop-i : goal.decreases-ir_branches-loop-i
 decreases-ir_branches-loop-i l = left_of l.image.header l.i
 
 abbrev pub invariant-ir_items-loop-i : goal.invariant-ir_items-loop-i
-invariant-ir_items-loop-i l =
-    AtChain l.image.bytes.now l.image.header l.n (items l.n l.initial.i l.depth l.from) (items l.n l.i l.depth l.from) l.i l.initial.stores.run l.initial.stores.words.now l.initial.stores.bytes.now l.stores.run l.stores.words.now l.stores.bytes.now
+invariant-ir_items-loop-i l = record {
+  at : AtChain l.image.bytes.now l.image.header l.n (items l.n l.initial.i l.depth l.from) (items l.n l.i l.depth l.from) l.i l.initial.stores.run l.initial.stores.words.now l.initial.stores.bytes.now l.stores.run l.stores.words.now l.stores.bytes.now;
+  same : SameSlices l.fn.stores l.stores;
+}
 
 abbrev pub decreases-ir_items-loop-i : goal.decreases-ir_items-loop-i
 decreases-ir_items-loop-i l = left_of l.image.header l.i
 
 abbrev pub invariant-ir_loop-loop-r : goal.invariant-ir_loop-loop-r
-invariant-ir_loop-loop-r l = AtTurn l.image.bytes.now l.image.header (turn l.n l.depth l.scope) l.initial.stores.run l.initial.stores.words.now l.initial.stores.bytes.now l.stores.run l.stores.words.now l.stores.bytes.now
+invariant-ir_loop-loop-r l = record {
+  at : AtTurn l.image.bytes.now l.image.header (turn l.n l.depth l.scope) l.initial.stores.run l.initial.stores.words.now l.initial.stores.bytes.now l.stores.run l.stores.words.now l.stores.bytes.now;
+  same : SameSlices l.fn.stores l.stores;
+}
 
 abbrev pub decreases-ir_loop-loop-r : goal.decreases-ir_loop-loop-r
 decreases-ir_loop-loop-r l = takes_of l.stores.run
 
 abbrev pub invariant-ir_scope-loop-i : goal.invariant-ir_scope-loop-i
-invariant-ir_scope-loop-i l =
-    AtChain l.image.bytes.now l.image.header l.n (instructions l.n l.initial.i l.depth l.scope) (instructions l.n l.i l.depth l.scope) l.i l.initial.stores.run l.initial.stores.words.now l.initial.stores.bytes.now l.stores.run l.stores.words.now l.stores.bytes.now
+invariant-ir_scope-loop-i l = record {
+  at : AtChain l.image.bytes.now l.image.header l.n (instructions l.n l.initial.i l.depth l.scope) (instructions l.n l.i l.depth l.scope) l.i l.initial.stores.run l.initial.stores.words.now l.initial.stores.bytes.now l.stores.run l.stores.words.now l.stores.bytes.now;
+  same : SameSlices l.fn.stores l.stores;
+}
 
 abbrev pub decreases-ir_scope-loop-i : goal.decreases-ir_scope-loop-i
 decreases-ir_scope-loop-i l = left_of l.image.header l.i

@@ -13,9 +13,9 @@ loop-i-preserved c =
     let a = c.args in
     elim c.if-is_owned.branch [
       | then-is_owned w ↦
-          (omega (arith, w.count-is), rw w.count-is (count_owned a.stores.now.run a.stores.now.words.now a.owner l.i l.count l.invariant.1 c.loop-i-test.true w.if-is_owned.ensures))
+          (omega (arith, w.count-is), rw w.count-is (count_owned a.stores.now.run.now a.stores.now.words.now a.owner l.i l.count l.invariant.1 c.loop-i-test.true w.if-is_owned.ensures))
       | else-is_owned w ↦
-          (omega (arith, w.count-is), rw w.count-is (count_other a.stores.now.run a.stores.now.words.now a.owner l.i l.count l.invariant.1 c.loop-i-test.true w.if-is_owned.ensures))
+          (omega (arith, w.count-is), rw w.count-is (count_other a.stores.now.run.now a.stores.now.words.now a.owner l.i l.count l.invariant.1 c.loop-i-test.true w.if-is_owned.ensures))
     ]
 
 pub returns : goal.returns

@@ -5,4 +5,4 @@ use Rattle.ordered.proofs.WordLaws.{NextFrom}
 use Rattle.ordered.proofs.next_entry.Given as goal
 
 abbrev pub invariant-loop-i : goal.invariant-loop-i
-invariant-loop-i l = (l.i ≤ cells_of l.stores.run) × NextFrom l.image.bytes.now l.image.header l.stores.run l.stores.words.now l.owner l.last l.i l.best
+invariant-loop-i l = (l.i ≤ cells_of l.stores.run.now) × NextFrom l.image.bytes.now l.image.header l.stores.run.now l.stores.words.now l.owner l.last l.i l.best

@@ -17,7 +17,7 @@ abbrev pub decreases-write_items : goal.decreases-write_items
 decreases-write_items l = 3 * l.allowance + 2
 
 abbrev pub invariant-write_entries-loop-k : goal.invariant-write_entries-loop-k
-invariant-write_entries-loop-k l = EntriesDone l.image.bytes.now l.image.header l.stores.run l.stores.words.now l.stores.bytes.now l.owner l.allowance l.writing l.fn.spot l.fn.out l._k l.end l.out l.last
+invariant-write_entries-loop-k l = EntriesDone l.image.bytes.now l.image.header l.stores.run.now l.stores.words.now l.stores.bytes.now l.owner l.allowance l.writing l.fn.spot l.fn.out l._k l.end l.out l.last
 
 abbrev pub invariant-write_items-loop-i : goal.invariant-write_items-loop-i
-invariant-write_items-loop-i l = ItemsDone l.image.bytes.now l.image.header l.stores.run l.stores.words.now l.stores.bytes.now (l.owner + 1) l.allowance l.writing l.fn.spot l.fn.out l.i l.end l.out
+invariant-write_items-loop-i l = ItemsDone l.image.bytes.now l.image.header l.stores.run.now l.stores.words.now l.stores.bytes.now (l.owner + 1) l.allowance l.writing l.fn.spot l.fn.out l.i l.end l.out

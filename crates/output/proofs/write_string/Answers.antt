@@ -16,5 +16,5 @@ write_text-requires c = (omega (arith, c.args.stores.now.fits.text, c.args.store
 
 pub returns : goal.returns
 returns c =
-    text_is c.args.image.now.bytes.now c.args.image.now.header c.args.stores.now.run c.args.stores.now.words.now c.args.stores.now.bytes.now c.args.start c.args.len
+    text_is c.args.image.now.bytes.now c.args.image.now.header c.args.stores.now.run.now c.args.stores.now.words.now c.args.stores.now.bytes.now c.args.start c.args.len
     (puts_then c.in_ok-spot.ensures c.write_text.ensures)
