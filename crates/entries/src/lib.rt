@@ -16,6 +16,11 @@ fn find_key(image: &Image, words: &[u64], from: usize, to: usize, key: u64) -> O
     requires { (to ≤ 1024) × (8192 ≤ length words.now) }
     ensures { result ≡ found_of (key_at image.now.bytes.now image.now.header key from (drop from (keys_in to words.now))) }
 {
+    // A copy, as in `boxes::entry_at`.
+    let image = &Image {
+        bytes: image.bytes,
+        header: image.header,
+    };
     for i in from..to {
         if same_part(image, words[1795 + 4 * i], key) {
             return Some(i);

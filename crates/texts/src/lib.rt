@@ -2,6 +2,7 @@
 #![tactic(auto)]
 
 ghost use Rattle.std.specs.Prelude.{◌≡◌, ◌+◌, ◌≤◌, ◌<◌, length, MatchBool};
+ghost use Rattle.std.specs.List.{copy_within};
 ghost use Rattle.packed.specs.Layout.{size_of};
 ghost use Rattle.numbers.specs.Decimal.{put_of, end_of};
 ghost use Rattle.rules.specs.Store.{length_of, same_text, part_text};
@@ -67,11 +68,31 @@ fn literal_text<'a>(image: &'a Image, payload: u64) -> &'a [u8]
     image_span(image.header, start_of(payload), length_of(payload)).of(image.bytes)
 }
 
-// Whether two payloads of text literals name the same text.
+// Up to how many bytes a text is short.
+const SHORT: usize = 16;
+
+// Whether two texts are the same. Short ones, as most keys are, are told apart sooner one by one than by the library, which goes by groups.
+#[inline(always)]
+fn same_bytes(a: &[u8], b: &[u8]) -> bool
+    ensures { result ≡ same_text a.now b.now }
+{
+    if a.len() != b.len() || SHORT < a.len() {
+        return a == b;
+    }
+    for (i, byte) in a.iter().enumerate() {
+        if b[i] != *byte {
+            return false;
+        }
+    }
+    true
+}
+
+// Whether two payloads of text literals name the same text. (Inlined: a search for a key then finds the key's own text once.)
+#[inline(always)]
 pub fn same_part(image: &Image, p: u64, q: u64) -> bool
     ensures { result ≡ same_text (part_text image.now.bytes.now image.now.header p) (part_text image.now.bytes.now image.now.header q) }
 {
-    p == q || literal_text(image, p) == literal_text(image, q)
+    p == q || same_bytes(literal_text(image, p), literal_text(image, q))
 }
 
 // Whether the text that a payload names is that of another, or stands before it.
@@ -88,6 +109,16 @@ fn has_room(total: usize, at: usize, count: usize) -> bool
     count <= total && at <= total - count
 }
 
+// Bytes copied one by one: by the library's `copy_from_slice` the archive for C would need `memmove` from outside.
+fn copy_bytes(to: &mut [u8], from: &[u8])
+    requires { length to.old ≡ length from.now }
+    ensures { to.new ≡ from.now }
+{
+    for (i, byte) in from.iter().enumerate() {
+        to[i] = *byte;
+    }
+}
+
 // Puts a text at `at` and gives its end, or changes nothing where it has no room.
 fn put_bytes(text: &[u8], bytes: &mut [u8], at: usize) -> Option<usize>
     ensures end { result ≡ end_of bytes.old at text.now }
@@ -97,7 +128,7 @@ fn put_bytes(text: &[u8], bytes: &mut [u8], at: usize) -> Option<usize>
         return None;
     }
     let end = at + text.len();
-    bytes[at..end].copy_from_slice(text);
+    copy_bytes(&mut bytes[at..end], text);
     Some(end)
 }
 
@@ -117,6 +148,15 @@ pub fn sources_of(h: Header, made: usize, start: u32, len: u16) -> Sources
     let past = (start as usize).saturating_sub(h.text as usize);
     let built = span_of(made, past, len as usize - image.count);
     Sources { image, built }
+}
+
+// So many bytes that were built copied to `at`, past them.
+fn copy_built(bytes: &mut [u8], from: usize, count: usize, at: usize)
+    requires { (from + count ≤ at) × (at + count ≤ length bytes.old) }
+    ensures { bytes.new ≡ copy_within bytes.old from (from + count) at }
+{
+    let (before, after) = bytes.split_at_mut(at);
+    copy_bytes(&mut after[..count], &before[from..from + count]);
 }
 
 // Puts a text at `at`, the first `made` bytes having been built before.
@@ -139,8 +179,8 @@ pub fn put_text(
         return None;
     }
     let middle = at + from.image.count;
-    bytes[at..middle].copy_from_slice(from.image.of(image.bytes));
-    bytes.copy_within(built.from..built.from + built.count, middle);
+    copy_bytes(&mut bytes[at..middle], from.image.of(image.bytes));
+    copy_built(bytes, built.from, built.count, middle);
     Some(at + count)
 }
 

@@ -15,5 +15,5 @@ returns c =
     let a = c.args in
     record {
       end = end_is a.bytes.now a.at a.text.now _ refl (omega arith);
-      bytes = put_mid_is a.bytes.now a.at a.text.now _ _ c.copy_from_slice.ensures.after (omega arith) (omega arith);
+      bytes = put_mid_is a.bytes.now a.at a.text.now _ _ c.copy_bytes.ensures (omega arith) (omega arith);
     }

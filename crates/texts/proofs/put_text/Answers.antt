@@ -19,6 +19,6 @@ returns c =
     let size = length_part first.from first.count a.image.now.bytes.now (omega (arith, from.in_image)) in
     let put =
     pool_all a.image.now.bytes.now a.image.now.header c.args.image.now.whole a.made a.start a.len a.bytes.now _ from a.at c.requires _ _ (omega arith)
-    (put_mid_is a.bytes.now a.at _ _ _ (c.copy_from_slice.ensures.after ∙ c.of.ensures) (omega (arith, size)) (omega arith))
-    c.copy_within.ensures.after in
+    (put_mid_is a.bytes.now a.at _ _ _ (c.copy_bytes.ensures ∙ c.of.ensures) (omega (arith, size)) (omega arith))
+    c.copy_built.ensures in
     record { end = put.0; bytes = put.1 }
