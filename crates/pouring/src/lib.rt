@@ -84,13 +84,27 @@ fn pour(out: &mut [u8], spot: Spot, width: u32, x: u64)
     }
 }
 
+// Pours a byte: what has room in the byte that it begins in, and the rest in the next. (`pour` would go by a loop, for each byte of a text.)
+fn pour_byte(out: &mut [u8], at: usize, used: u32, byte: u8)
+    requires { (used < 8) × (8 * at + used + 8 ≤ 8 * length out.old) }
+    ensures { Pours (8 * at + used) (bits_of 8 byte) out.old out.new }
+{
+    let x = u64::from(byte);
+    let part = 8 - used;
+    let left = 8 - part;
+    fill(out, at, used, part, cut(x, left, part));
+    if left > 0 {
+        fill(out, at + 1, 0, left, cut(x, 0, left));
+    }
+}
+
 // Pours bytes.
 fn pour_bytes(source: &[u8], out: &mut [u8], spot: Spot)
     requires { (spot.bits < 8) × (bits_before spot + 8 * length source.now ≤ 8 * length out.old) }
     ensures { Pours (bits_before spot) (byte_bits source.now) out.old out.new }
 {
     for (i, byte) in source.iter().enumerate() {
-        pour(out, spot.on(i, 0), 8, u64::from(*byte));
+        pour_byte(out, spot.bytes + i, spot.bits, *byte);
     }
 }
 
