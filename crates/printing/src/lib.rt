@@ -2,7 +2,8 @@
 // that has no room is left out; the page is then full, and a full page is told and not sent.
 #![tactic(auto)]
 
-ghost use Rattle.std.specs.Prelude.{◌≡◌, ◌≢◌, ◌≤◌, ◌↔◌, ◌∷◌, [], min, max, length, take, IsTrue, MatchOption};
+ghost use Rattle.std.specs.Prelude.{◌≡◌, ◌≢◌, ◌≤◌, ◌<◌, ◌↔◌, ◌∷◌, [], min, max, length, take, IsTrue, MatchOption};
+ghost use Rattle.io.specs.Digits.{hex_digit_ascii};
 ghost use Rattle.printing.specs.Page.{page, with_byte, with_bytes, hex_of, letter_of, is_printable, escape_of, InBase};
 ghost use Rattle.printing.specs.Shown.{shown};
 
@@ -94,7 +95,8 @@ impl<'a> Page<'a> {
         ensures same_reference { self.new.all.ghost_name ≡ self.old.all.ghost_name }
         ensures value { shown self.new ≡ with_bytes (shown self.old) (hex_of (b ∷ [])) }
     {
-        self.hex(u64::from(b), 2);
+        self.byte(hex_digit(b / 16 % 16));
+        self.byte(hex_digit(b % 16));
     }
 
     // Bytes as two hexadecimal digits each. (A loop of its own: one generic in what a byte is written as would be no plainer.)
@@ -125,29 +127,42 @@ impl<'a> Page<'a> {
 
     // Sends the page's text to standard output, whole, or says on standard error that it did not.
     pub fn send(&self, stdout: &impl Print, stderr: &impl Print) -> bool {
-        if self.is_full() {
-            let _ = stderr.write_all(b"the text is too long to be written: give a smaller one\n");
-            return false;
-        }
-        match stdout.write_all(self.written()) {
-            Ok(()) => true,
-            Err(error) => {
-                fail(stderr, b"standard output was not written whole", &error);
-                false
-            }
-        }
+        send(stdout, stderr, self.all, self.at)
     }
 
     // The same to standard error, where nobody is left to be told.
     pub fn warn(&self, stderr: &impl Print) -> bool {
-        !self.is_full() && stderr.write_all(self.written()).is_ok()
+        warn(stderr, self.all, self.at)
     }
 
     // The same with what the system says after it: why a call failed.
     pub fn warn_errno(&self, stderr: &impl Print, error: &Error) {
-        if !self.is_full() {
-            fail(stderr, self.written(), error);
+        warn_errno(stderr, self.all, self.at, error);
+    }
+}
+
+// What `Page` sends, of a slice that is lent to be read alone: the page's bytes are its first `at`, and a full one is told and not sent.
+pub fn send(stdout: &impl Print, stderr: &impl Print, all: &[u8], at: usize) -> bool {
+    if all.len() <= at {
+        let _ = stderr.write_all(b"the text is too long to be written: give a smaller one\n");
+        return false;
+    }
+    match stdout.write_all(&all[..at]) {
+        Ok(()) => true,
+        Err(error) => {
+            fail(stderr, b"standard output was not written whole", &error);
+            false
         }
+    }
+}
+
+pub fn warn(stderr: &impl Print, all: &[u8], at: usize) -> bool {
+    at < all.len() && stderr.write_all(&all[..at]).is_ok()
+}
+
+pub fn warn_errno(stderr: &impl Print, all: &[u8], at: usize, error: &Error) {
+    if at < all.len() {
+        fail(stderr, &all[..at], error);
     }
 }
 
@@ -157,6 +172,16 @@ impl fmt::Write for Page<'_> {
     fn write_str(&mut self, s: &str) -> fmt::Result {
         self.bytes(s.as_bytes());
         Ok(())
+    }
+}
+
+fn hex_digit(d: u8) -> u8
+    requires { d < 16 }
+    ensures { result ≡ hex_digit_ascii d }
+{
+    match d {
+        0..=9 => b'0' + d,
+        _ => b'a' - 10 + d,
     }
 }
 
