@@ -92,6 +92,19 @@ fn print_value(
     page.send(stdout, stderr);
 }
 
+// (Not inlined: a refusal would wait for the page to be filled with zeros too.)
+#[inline(never)]
+fn print_on_a_page(
+    stdout: &impl Print,
+    stderr: &impl Print,
+    output: &[u8],
+    steps: u64,
+    command: Command,
+) {
+    let mut room = [0u8; PAGE];
+    print_value(stdout, stderr, output, steps, command, &mut room);
+}
+
 fn print_answer(
     stdout: &impl Print,
     stderr: &impl Print,
@@ -105,8 +118,7 @@ fn print_answer(
         print_refusal(stdout, stderr, answer, command);
         return;
     };
-    let mut room = [0u8; PAGE];
-    print_value(stdout, stderr, &output[..length], steps, command, &mut room);
+    print_on_a_page(stdout, stderr, &output[..length], steps, command);
 }
 
 pub fn evaluate_and_print(stdout: &impl Print, stderr: &impl Print, image: &[u8], asked: Asked) {

@@ -25,6 +25,8 @@ fn load_and_print(
     }
 }
 
+// (Not inlined: `main` would take the stack of these arrays where nothing is evaluated too.)
+#[inline(never)]
 fn run(rt: &(impl Env + Files + Print), stderr: &impl Print, asked: Asked) {
     let mut image = [0u8; LONGEST];
     load_and_print(rt, stderr, &mut image, asked);
