@@ -1,8 +1,14 @@
 // The words of a line: one blank stands between two of them.
-ghost use Rattle.std.specs.Prelude.{◌<◌, ◌≤◌, length, IfSome};
+ghost use Rattle.std.specs.Prelude.{◌≡◌, ◌<◌, ◌≤◌, length, IfSome};
+ghost use Rattle.std.specs.List.{slice_get};
+ghost use Rattle.std.specs.Option.{option_map};
+ghost use Rattle.worked.specs.Words.{words_of};
 
 // Word n of the line, from 0 on.
-pub fn word(line: &[u8], n: usize) -> Option<&[u8]> {
+pub fn word(line: &[u8], n: usize) -> Option<&[u8]>
+    ensures part { option_map (λ w. w.now) result ≡ slice_get (words_of line.now) n }
+    ensures within { IfSome result (λ w. length w.now ≤ length line.now) }
+{
     line.split(|b| *b == b' ').nth(n)
 }
 
