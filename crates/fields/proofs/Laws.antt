@@ -75,6 +75,21 @@ in_byte l k r (suc t) s e =
 pub field_byte : (l : List ℕ) (k : ℕ) → get_or l k 0 < 256 → field_of l (8 * k) 8 ≡ get_or l k 0
 field_byte l k h = ap (λ (i : ℕ). field_of l i 8) (sym (add-zero (8 * k))) ∙ in_byte l k 0 8 0 refl ∙ (omega arith)
 
+-- n bytes from byte k, the most significant first
+unfoldable pub be : List ℕ → ℕ → ℕ → ℕ
+be l k zero = 0
+be l k (suc n) = be l k n * 256 + get_or l (k + n) 0
+
+-- they are the field of their bits, however many they are
+pub field_be : (l : List ℕ) → ((i : ℕ) → get_or l i 0 < 256) → (k n : ℕ) → field_of l (8 * k) (8 * n) ≡ be l k n
+unfolding be field_of
+field_be l h k zero = refl
+field_be l h k (suc n) =
+    let e : 8 * suc n ≡ 8 * n + 8 = omega arith in
+    let f : 8 * k + 8 * n ≡ 8 * (k + n) = omega arith in
+    ap (field_of l (8 * k)) e ∙ field_split l (8 * k) (8 * n) 8
+    ∙ ap₂ (λ (a b : ℕ). a * 256 + b) (field_be l h k n) (ap (λ (i : ℕ). field_of l i 8) f ∙ field_byte l (k + n) (h (k + n)))
+
 -- two fields that stand one after the other, the first of m bytes, make one
 pub join : (l : List ℕ) (k m b x y : ℕ) → x ≡ field_of l (8 * k) (8 * m) → y ≡ field_of l (8 * (k + m)) b → x * 2 ^ b + y ≡ field_of l (8 * k) (8 * m + b)
 join l k m b x y p q =

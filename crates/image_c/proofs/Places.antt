@@ -1,6 +1,6 @@
 -- The place of a refusal is below 2^20 and its number is at most 4, whatever the image: a place is the offset of one of a header's records, or a node.
 -- Assumes nothing.
-use mathlib.Core.Path.{◌≡◌, refl, subst}
+use mathlib.Core.Path.{◌≡◌, refl}
 use mathlib.Core.Bool.{Bool, true, false, not, cond}
 use mathlib.Core.List.{List}
 use Prim.Native.Nat.{ℕ, ◌+◌, ◌-◌, ◌^◌, ◌≤◌, ◌<◌}
@@ -9,21 +9,22 @@ use lib.Dec.{ltb, eqb}
 use lib.ListN.{length}
 use Rattle.fields.proofs.Laws.{field_below}
 use Rattle.packed.specs.declared.layout.Header.{Header}
-use Rattle.std.proofs.Common.{Option, Some, None, Result, Err}
+use Rattle.std.proofs.Common.{Option, Some, None, Result, Ok, Err}
 use Rattle.image.specs.declared.LoadError.{LoadError}
 use Rattle.image.specs.declared.LoadError.TheVariants.{BadLength, BadHeader, BadRecord, BadTree}
 use Rattle.records.specs.First.{first_from}
 use Rattle.packed.specs.Layout.{header_of, size_of, function_offset, node_offset, literal_offset}
 use Rattle.records.specs.Records.{is_node, records_in, record_offset, record_bad, placed, bad_record}
 use Rattle.tree.specs.Tree.{at_fault, lowest_fault}
-use Rattle.image.specs.Load.{by_tree, by_records, judged, load_of, error_number, error_place, place_of}
+use Rattle.image.specs.Load.{by_tree, by_records, judged, load_of, number_of, place_of}
 use Rattle.records.proofs.Search.{found}
 
-pub number_small : (e : LoadError) → error_number e ≤ 4
-number_small BadLength = omega arith
-number_small BadHeader = omega arith
-number_small (BadRecord place) = omega arith
-number_small (BadTree n) = omega arith
+pub number_small : (l : Result Header LoadError) → number_of l ≤ 4
+number_small (Ok h) = omega arith
+number_small (Err BadLength) = omega arith
+number_small (Err BadHeader) = omega arith
+number_small (Err (BadRecord place)) = omega arith
+number_small (Err (BadTree n)) = omega arith
 
 -- what holds of both sides of a choice holds of what is chosen
 either : {A : Type 0} (P : A → Type 0) (b : Bool) {x y : A} → P x → P y → P (cond b x y)
@@ -65,9 +66,9 @@ module _ (image : List ℕ) (h : Header) (functions : h.functions < 256) (nodes 
       (either Small (not (is_node h.nodes h.root)) refused
       (by_records_lem _ refl)))
 
-pub place_small : (image : List ℕ) {e : LoadError} → load_of image ≡ Err e → error_place e < 2 ^ 20
+pub place_small : (image : List ℕ) {l : Result Header LoadError} → l ≡ load_of image → place_of l < 2 ^ 20
 unfolding load_of header_of
 place_small image e =
-    subst Small e
+    rw e
     (either Small (ltb (length image) 8) refused
     (judged_small image (header_of image) (field_below image (0 + 4) 8) (field_below image (0 + 12) 12) (field_below image (0 + 24) 12)))
